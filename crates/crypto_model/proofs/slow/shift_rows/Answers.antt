@@ -1,0 +1,8 @@
+use Rattle.std.proofs.Common.{arith}
+use Rattle.crypto_model.specs.Aes.{shift_rows}
+use Rattle.crypto_model.proofs.Listed.{listed_all}
+use Rattle.crypto_model.proofs.slow.shift_rows.Goals as goal
+
+pub returns : goal.returns
+unfolding shift_rows
+returns c = listed_all 16 _ _ c.bytes.i c.bytes.invariant.0 c.bytes.invariant.1 (omega arith)

@@ -1,0 +1,10 @@
+pub mod Counts
+pub mod Field
+pub mod Aes
+pub mod Modes
+pub mod Chain
+pub mod Process
+pub mod Op
+pub mod Burst
+pub mod Lending
+pub mod Block

@@ -1,0 +1,22 @@
+//! The definitions, computed on published vectors.
+ghost use Rattle.std.specs.Prelude.{◌≡◌, drop, replicate};
+ghost use Rattle.std.specs.List.{range_with_len};
+ghost use Rattle.crypto_model.specs.Aes.{cipher, inverse_cipher};
+ghost use Rattle.crypto_model.specs.Modes.{ctr, cbc_encrypt, cbc_decrypt};
+ghost use Rattle.crypto_model.specs.Block.{block};
+
+/// The cipher and its inverse on the examples of FIPS 197, Appendix C, whose keys are the bytes 0, 1, 2 and so on.
+pub fn cipher_vectors()
+    ensures aes_128 { cipher (range_with_len 0 16) (block 0x00112233445566778899aabbccddeeff) ≡ block 0x69c4e0d86a7b0430d8cdb78070b4c55a }
+    ensures aes_192 { cipher (range_with_len 0 24) (block 0x00112233445566778899aabbccddeeff) ≡ block 0xdda97ca4864cdfe06eaf70a0ec0d7191 }
+    ensures aes_256 { cipher (range_with_len 0 32) (block 0x00112233445566778899aabbccddeeff) ≡ block 0x8ea2b7ca516745bfeafc49904b496089 }
+    ensures back_128 { inverse_cipher (range_with_len 0 16) (block 0x69c4e0d86a7b0430d8cdb78070b4c55a) ≡ block 0x00112233445566778899aabbccddeeff }
+{}
+
+/// The modes on the first block of SP 800-38A F.2.1, F.2.2 and F.5.1, and CTR on a counter that passes its last value.
+pub fn mode_vectors()
+    ensures cbc { cbc_encrypt (cipher (block 0x2b7e151628aed2a6abf7158809cf4f3c)) (range_with_len 0 16) (block 0x6bc1bee22e409f96e93d7e117393172a) ≡ block 0x7649abac8119b246cee98e9b12e9197d }
+    ensures cbc_back { cbc_decrypt (inverse_cipher (block 0x2b7e151628aed2a6abf7158809cf4f3c)) (range_with_len 0 16) (block 0x7649abac8119b246cee98e9b12e9197d) ≡ block 0x6bc1bee22e409f96e93d7e117393172a }
+    ensures ctr { ctr (cipher (block 0x2b7e151628aed2a6abf7158809cf4f3c)) (block 0xf0f1f2f3f4f5f6f7f8f9fafbfcfdfeff) (block 0x6bc1bee22e409f96e93d7e117393172a) ≡ block 0x874d6191b620e3261bef6864990db6ce }
+    ensures ctr_carry { drop 16 (ctr (cipher (replicate 16 0)) (replicate 16 255) (replicate 32 0)) ≡ block 0x66e94bd4ef8a2c3b884cfa59ca342b2e }
+{}

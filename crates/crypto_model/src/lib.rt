@@ -1,0 +1,15 @@
+//! The plain types of the framework, and the definitions that its contracts cite: AES and its modes,
+//! and what processing an operation gives.
+#![tactic(auto)]
+
+mod laws;
+mod plain;
+mod slow;
+pub mod thin;
+
+pub use laws::{cipher_vectors, mode_vectors};
+pub use plain::{Act, CipherAlg, DigestPlace, Dir, Hash, OutOfMemory, Range, SessId, Status};
+pub use slow::{BadKeyLength, slow_encrypt};
+
+#[cfg(test)]
+mod tests;

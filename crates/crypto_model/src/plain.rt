@@ -1,0 +1,79 @@
+//! The plain types that an operation and a session are made of.
+use std::alloc::{AllocError, AllocFailed};
+use thiserror::Error;
+
+/// The number of a session in its table.
+#[derive(Clone, Copy, Debug, PartialEq, Eq)]
+pub struct SessId(pub u32);
+
+/// Bytes of a packet, by the offset of the first and their number.
+#[derive(Clone, Copy, Debug, PartialEq, Eq)]
+pub struct Range {
+    pub off: u32,
+    pub len: u32,
+}
+
+/// Where the digest or tag of an operation lies: at an offset of the packet, or in the operation's own field.
+#[derive(Clone, Copy, Debug, PartialEq, Eq)]
+pub enum DigestPlace {
+    Nowhere,
+    InChain(u32),
+    OwnField,
+}
+
+/// How an operation stands. `Error` is never given.
+#[derive(Clone, Copy, Debug, PartialEq, Eq)]
+pub enum Status {
+    Success,
+    NotProcessed,
+    AuthFailed,
+    InvalidSession,
+    InvalidArgs,
+    Error,
+}
+
+/// A hash function of FIPS 180-4.
+#[derive(Clone, Copy, Debug, PartialEq, Eq)]
+pub enum Hash {
+    Sha224,
+    Sha256,
+    Sha384,
+    Sha512,
+}
+
+/// AES in a mode of SP 800-38A.
+#[derive(Clone, Copy, Debug, PartialEq, Eq)]
+pub enum CipherAlg {
+    AesCbc,
+    AesCtr,
+}
+
+#[derive(Clone, Copy, Debug, PartialEq, Eq)]
+pub enum Dir {
+    Encrypt,
+    Decrypt,
+}
+
+/// Whether a digest is written or compared.
+#[derive(Clone, Copy, Debug, PartialEq, Eq)]
+pub enum Act {
+    Generate,
+    Verify,
+}
+
+/// Memory was wanting.
+#[derive(Clone, Copy, Debug, PartialEq, Eq, Error)]
+#[error("out of memory")]
+pub struct OutOfMemory;
+
+impl From<AllocError> for OutOfMemory {
+    fn from(_error: AllocError) -> OutOfMemory {
+        OutOfMemory
+    }
+}
+
+impl<T: Drop> From<AllocFailed<T>> for OutOfMemory {
+    fn from(_error: AllocFailed<T>) -> OutOfMemory {
+        OutOfMemory
+    }
+}

@@ -1,0 +1,81 @@
+use crate::thin::{Card, Iv, Mbuf, Op, OpBurst, OpSpec, Session, SessionTable};
+use crate::{DigestPlace, Range, SessId, Status, slow_encrypt};
+use std::test::Fail;
+
+const KEY: [u8; 32] = [
+    0, 1, 2, 3, 4, 5, 6, 7, 8, 9, 10, 11, 12, 13, 14, 15, 16, 17, 18, 19, 20, 21, 22, 23, 24, 25,
+    26, 27, 28, 29, 30, 31,
+];
+
+const PLAIN: u128 = 0x0011_2233_4455_6677_8899_aabb_ccdd_eeff;
+
+// FIPS 197, Appendix C.
+#[test]
+fn slow_encrypt_gives_the_examples_of_the_standard(rt: HostRuntime) -> Result<(), Fail> {
+    for (length, cipher) in [
+        (16, 0x69c4_e0d8_6a7b_0430_d8cd_b780_70b4_c55a_u128),
+        (24, 0xdda9_7ca4_864c_dfe0_6eaf_70a0_ec0d_7191),
+        (32, 0x8ea2_b7ca_5167_45bf_eafc_4990_4b49_6089),
+    ] {
+        let key = KEY.get(..length).ok_or("key")?;
+        let block = slow_encrypt(key, PLAIN.to_be_bytes())?;
+        assert_eq!(rt;
+            u128::from_be_bytes(block),
+            cipher,
+            "a key of {length} bytes"
+        );
+    }
+    assert!(rt; slow_encrypt(&KEY[..17], PLAIN.to_be_bytes()).is_err());
+    Ok(())
+}
+
+#[test]
+fn an_operation_goes_through_a_burst(rt: HostRuntime) -> Result<(), Fail> {
+    let alloc = rt.alloc();
+    let spec = OpSpec {
+        session: SessId(0),
+        iv: Iv::copy(&KEY[..16]),
+        cipher: Range { off: 1, len: 2 },
+        auth: Range { off: 0, len: 0 },
+        place: DigestPlace::Nowhere,
+        digest: [0; 64],
+        pos: 5,
+    };
+    let mut op = Op::new(
+        spec,
+        Mbuf::of(Vec::from_slice(alloc, b"abc")?),
+        Card { packet: 5, flow: 0 },
+    );
+    assert_eq!(rt; op.data_len(), 2);
+    if op.chain().len() == 3 {
+        op.chain_mut().write_at(1, b"x");
+    }
+    op.set_status(Status::Success);
+    let mut burst = OpBurst::new(alloc, 1)?;
+    burst.push(op);
+    burst.set_pos(0, 7);
+    let op = burst.pop().ok_or("no operation")?;
+    let (spec, status, chain, card) = op.into_parts();
+    assert_eq!(rt; (spec.pos, status, card.packet), (7, Status::Success, 5));
+    assert!(rt; chain.len() == 3);
+    assert_eq!(rt; chain.piece(0, 3), b"axc".as_slice());
+    Ok(())
+}
+
+#[test]
+fn a_table_numbers_its_sessions(rt: HostRuntime) -> Result<(), Fail> {
+    let alloc = rt.alloc();
+    let mut table = SessionTable::new(alloc)?;
+    for number in 0..1024 {
+        let session = Session::ctr(&KEY[..16])?;
+        assert_eq!(rt; table.add(session).ok(), Some(SessId(number)));
+    }
+    assert!(rt; table.add(Session::ctr(&KEY)?).is_err());
+    assert_eq!(rt;
+        table.get(SessId(1023)).ok_or("no session")?.key(),
+        &KEY[..16]
+    );
+    assert!(rt; table.get(SessId(1024)).is_none());
+    assert!(rt; Session::ctr(&KEY[..15]).is_err());
+    Ok(())
+}

@@ -1,0 +1,239 @@
+use crate::{
+    CaptureCause, Header, MemSink, MemSource, Place, ReadFault, ReadStop, Record, Sink, Source,
+    StdSink, StdSource, WriteFault, fill, one_reading, read_header, read_record, write_all,
+    write_header, write_record,
+};
+use std::alloc::Global;
+use std::io;
+use std::io::{Read, Write};
+use std::test::Fail;
+
+// One capture in each spelling: a header with zone 1, accuracy 2, 64 bytes at most and link 3, and a
+// record at second 5 and fraction 6, of which 2 bytes were captured of 9.
+const CAPTURES: [(bool, bool, [u8; 42]); 4] = [
+    (
+        true,
+        false,
+        [
+            0xa1, 0xb2, 0xc3, 0xd4, 0, 2, 0, 4, 0, 0, 0, 1, 0, 0, 0, 2, 0, 0, 0, 64, 0, 0, 0, 3, //
+            0, 0, 0, 5, 0, 0, 0, 6, 0, 0, 0, 2, 0, 0, 0, 9, 0x70, 0x71,
+        ],
+    ),
+    (
+        true,
+        true,
+        [
+            0xa1, 0xb2, 0x3c, 0x4d, 0, 2, 0, 4, 0, 0, 0, 1, 0, 0, 0, 2, 0, 0, 0, 64, 0, 0, 0, 3, //
+            0, 0, 0, 5, 0, 0, 0, 6, 0, 0, 0, 2, 0, 0, 0, 9, 0x70, 0x71,
+        ],
+    ),
+    (
+        false,
+        false,
+        [
+            0xd4, 0xc3, 0xb2, 0xa1, 2, 0, 4, 0, 1, 0, 0, 0, 2, 0, 0, 0, 64, 0, 0, 0, 3, 0, 0, 0, //
+            5, 0, 0, 0, 6, 0, 0, 0, 2, 0, 0, 0, 9, 0, 0, 0, 0x70, 0x71,
+        ],
+    ),
+    (
+        false,
+        true,
+        [
+            0x4d, 0x3c, 0xb2, 0xa1, 2, 0, 4, 0, 1, 0, 0, 0, 2, 0, 0, 0, 64, 0, 0, 0, 3, 0, 0, 0, //
+            5, 0, 0, 0, 6, 0, 0, 0, 2, 0, 0, 0, 9, 0, 0, 0, 0x70, 0x71,
+        ],
+    ),
+];
+
+#[test]
+fn a_capture_is_read_and_written_again(rt: HostRuntime) -> Result<(), Fail> {
+    let alloc = rt.alloc();
+    one_reading();
+    for (big, nanos, bytes) in &CAPTURES {
+        let fails = Vec::new(alloc);
+        let mut source = MemSource::new(Vec::from_slice(alloc, bytes)?, 7, fails);
+        let header = read_header(&mut source)?;
+        let expected = Header {
+            big: *big,
+            nanos: *nanos,
+            zone: 1,
+            sigfigs: 2,
+            snaplen: 64,
+            link: 3,
+        };
+        assert_eq!(rt; header, expected);
+        let mut place = Place { at: 24, records: 0 };
+        let record = read_record(alloc, &mut source, &header, &mut place)?;
+        assert_eq!(rt; (record.sec, record.frac, record.orig), (5, 6, 9));
+        assert_eq!(rt; record.packet.len(), 2);
+        assert_eq!(rt; record.packet.piece(0, 2), b"pq".as_slice());
+        assert_eq!(rt; place, Place { at: 42, records: 1 });
+        let end = read_record(alloc, &mut source, &header, &mut place);
+        assert!(rt; matches!(end, Err(ReadStop::End)));
+
+        let mut sink = MemSink::new(alloc, 42, Vec::new(alloc))?;
+        write_header(&mut sink, &header)?;
+        write_record(&mut sink, &header, &record)?;
+        assert_eq!(rt; sink.bytes(), bytes.as_slice());
+    }
+    Ok(())
+}
+
+fn read_two(alloc: Global, source: &mut MemSource) -> Result<Place, ReadStop> {
+    let header = read_header(source)?;
+    let mut place = Place { at: 24, records: 0 };
+    read_record(alloc, source, &header, &mut place)?;
+    read_record(alloc, source, &header, &mut place)?;
+    Ok(place)
+}
+
+fn bad(at: u64, cause: CaptureCause) -> ReadStop {
+    ReadStop::BadCapture { at, cause }
+}
+
+// Each case is the first capture above up to a length, with four bytes changed at a place.
+#[test]
+fn captures_are_refused(rt: HostRuntime) -> Result<(), Fail> {
+    let alloc = rt.alloc();
+    for (len, at, four, stop) in [
+        (0, 0_usize, [0; 4], bad(0, CaptureCause::ShortHeader)),
+        (23, 0, [0; 4], bad(0, CaptureCause::ShortHeader)),
+        (
+            42,
+            0,
+            [0xa1, 0xb2, 0xc3, 0xd5],
+            bad(0, CaptureCause::BadMagic),
+        ),
+        (42, 4, [0, 2, 0, 3], bad(4, CaptureCause::BadVersion)),
+        (42, 4, [0, 3, 0, 4], bad(4, CaptureCause::BadVersion)),
+        (24, 20, [0; 4], ReadStop::End),
+        (39, 20, [0; 4], bad(24, CaptureCause::ShortRecord)),
+        (41, 20, [0; 4], bad(24, CaptureCause::ShortData)),
+        (42, 32, [0, 0, 0, 1], bad(41, CaptureCause::ShortRecord)),
+        (42, 32, [0, 4, 0, 0], bad(24, CaptureCause::ShortData)),
+        (42, 32, [0, 4, 0, 1], ReadStop::TooLarge(262_145)),
+        (42, 36, [0xff, 0xff, 0xff, 0xbf], ReadStop::End),
+        (
+            42,
+            36,
+            [0xff, 0xff, 0xff, 0xc0],
+            ReadStop::TooLarge(4_294_967_232),
+        ),
+    ] {
+        let mut bytes = Vec::from_slice(alloc, &CAPTURES[0].2)?;
+        bytes
+            .as_mut_slice()
+            .get_mut(at..at.saturating_add(4))
+            .ok_or("place")?
+            .copy_from_slice(&four);
+        bytes.truncate(len);
+        let mut source = MemSource::new(bytes, 7, Vec::new(alloc));
+        let read = read_two(alloc, &mut source);
+        assert_eq!(rt; read, Err(stop), "{len} bytes with {four:?} at {at}");
+    }
+    Ok(())
+}
+
+#[test]
+fn memory_fails_at_listed_calls_and_at_its_cap(rt: HostRuntime) -> Result<(), Fail> {
+    let alloc = rt.alloc();
+    let bytes = Vec::from_slice(alloc, b"abcdefghij")?;
+    let mut source = MemSource::new(bytes, 7, Vec::from_slice(alloc, &[1])?);
+    let mut buf = [0; 16];
+    assert_eq!(rt; fill(&mut source, &mut buf), Err(ReadFault));
+    assert_eq!(rt; &buf[..7], b"abcdefg".as_slice());
+    assert_eq!(rt; fill(&mut source, &mut buf), Ok(3));
+    assert_eq!(rt; &buf[..3], b"hij".as_slice());
+
+    let mut sink = MemSink::new(alloc, 4, Vec::from_slice(alloc, &[1])?)?;
+    assert_eq!(rt; write_all(&mut sink, b"ab"), Ok(()));
+    assert_eq!(rt; write_all(&mut sink, b"cd"), Err(WriteFault));
+    assert_eq!(rt; write_all(&mut sink, b"cdef"), Err(WriteFault));
+    assert_eq!(rt; sink.flush(), Ok(()));
+    assert_eq!(rt; sink.bytes(), b"abcd".as_slice());
+    Ok(())
+}
+
+// Gives and takes a byte at a time, and fails once, after some calls.
+#[derive(Drop)]
+struct FailsOnce {
+    bytes: Vec<u8>,
+    before: Option<u32>,
+}
+
+impl FailsOnce {
+    fn is_due(&mut self) -> bool {
+        let due = self.before == Some(0);
+        self.before = self.before.and_then(|calls| calls.checked_sub(1));
+        due
+    }
+}
+
+impl Read for FailsOnce {
+    fn read(&mut self, buf: &mut [u8]) -> io::Result<usize> {
+        if self.is_due() {
+            return Err(io::ErrorKind::Other.into());
+        }
+        if self.bytes.is_empty() || buf.is_empty() {
+            return Ok(0);
+        }
+        buf[0] = self.bytes.remove(0);
+        Ok(1)
+    }
+}
+
+impl Write for FailsOnce {
+    fn write(&mut self, buf: &[u8]) -> io::Result<usize> {
+        if self.is_due() {
+            return Err(io::ErrorKind::Other.into());
+        }
+        let n = buf.len().min(1);
+        self.bytes.extend_from_slice(&buf[..n])?;
+        Ok(n)
+    }
+
+    fn flush(&mut self) -> io::Result<()> {
+        if self.is_due() {
+            return Err(io::ErrorKind::Other.into());
+        }
+        Ok(())
+    }
+}
+
+#[test]
+fn faults_of_std_are_told(rt: HostRuntime) -> Result<(), Fail> {
+    let alloc = rt.alloc();
+    let mut buf = [0; 8];
+    assert_eq!(rt;
+        fill(&mut StdSource::new(b"abc".as_slice()), &mut buf),
+        Ok(3)
+    );
+    assert_eq!(rt; &buf[..3], b"abc".as_slice());
+
+    let bytes = Vec::from_slice(alloc, &CAPTURES[0].2)?;
+    let mut source = StdSource::new(FailsOnce {
+        bytes,
+        before: Some(30),
+    });
+    let header = read_header(&mut source)?;
+    let mut place = Place { at: 24, records: 0 };
+    let read = read_record(alloc, &mut source, &header, &mut place).err();
+    assert_eq!(rt; read, Some(ReadStop::Fault));
+    assert_eq!(rt; fill(&mut source, &mut buf), Ok(8));
+
+    let mut held = FailsOnce {
+        bytes: Vec::new(alloc),
+        before: Some(3),
+    };
+    let mut sink = StdSink::new(&mut held);
+    assert_eq!(rt; write_all(&mut sink, b"abc"), Ok(()));
+    assert_eq!(rt; sink.flush(), Err(WriteFault));
+    assert_eq!(rt; sink.flush(), Ok(()));
+    assert_eq!(rt; held.bytes.as_slice(), b"abc".as_slice());
+
+    let mut room = [0; 2];
+    let mut sink = StdSink::new(room.as_mut_slice());
+    assert_eq!(rt; write_all(&mut sink, b"abc"), Err(WriteFault));
+    assert_eq!(rt; room, *b"ab");
+    Ok(())
+}

@@ -1,0 +1,79 @@
+-- Records that are answered and written one after another.
+use Rattle.std.proofs.Common.{◌≡◌, ℕ, Bool, ◌+◌, ◌<◌, List, [], ◌∷◌, ◌++◌, length, map, take, drop, get_or, set, count_by, cond, refl, ap, sym, ◌∙◌, arith, add-zero, add-one, length-take}
+use Rattle.std.specs.List.{flat_map}
+use Rattle.std.proofs.lemmas.List.{get_or-map, length-map, map-append, take_more, take_more_set, take-append-drop, drop-set-lt, get_or-drop, drop-drop}
+use Rattle.std.proofs.lemmas.List.Sums.{sum_by-cons}
+use Rattle.std.proofs.Math.Seq.{drop-cons}
+use Rattle.crypto_model.specs.Process.{Transform}
+use Rattle.capture_io.specs.Capture.{Rec}
+use Rattle.capture_io.specs.Pieces.{AppendsPart}
+use Rattle.capcrypt.specs.declared.packet.Packet.{Packet}
+use Rattle.capcrypt.specs.Packet.{Answered, answered, answered_from, read_view, answered_view}
+use Rattle.capcrypt.specs.Written.{answer_bytes}
+use Rattle.capcrypt.specs.Ran.{CutAt}
+
+pub answered_from-nil : (sessions : List (List Transform)) (salt : List ℕ) (n : ℕ) → answered_from sessions salt n [] ≡ []
+unfolding answered_from
+answered_from-nil sessions salt n = refl
+
+pub length-answered_from : (sessions : List (List Transform)) (salt : List ℕ) (n : ℕ) (rs : List Rec) → length (answered_from sessions salt n rs) ≡ length rs
+unfolding answered_from
+length-answered_from sessions salt n [] = refl
+length-answered_from sessions salt n (r ∷ rs) = omega (arith, length-answered_from sessions salt (n + 1) rs)
+
+answered_from-push : (sessions : List (List Transform)) (salt : List ℕ) (n : ℕ) (rs : List Rec) (r : Rec)
+    → answered_from sessions salt n (rs ++ r ∷ []) ≡ answered_from sessions salt n rs ++ answered sessions salt (n + length rs) r ∷ []
+unfolding answered_from
+answered_from-push sessions salt n [] r = ap (λ (m : ℕ). answered sessions salt m r ∷ []) (sym (add-zero n))
+answered_from-push sessions salt n (x ∷ rs) r =
+    let at : (n + 1) + length rs ≡ n + length (x ∷ rs) = omega arith in
+    ap (λ (list : List Answered). answered sessions salt n x ∷ list)
+    (answered_from-push sessions salt (n + 1) rs r ∙ ap (λ (m : ℕ). answered_from sessions salt (n + 1) rs ++ answered sessions salt m r ∷ []) at)
+
+-- what the loop has not come to is as it was
+module _ (now all : List Packet) (n : ℕ) (rest : drop n now ≡ drop n all) where
+  pub same_at : (d : Packet) → get_or now n d ≡ get_or all n d
+  same_at d = ap (λ (m : ℕ). get_or now m d) (sym (add-zero n)) ∙ sym (get_or-drop n now 0 d) ∙ ap (λ (l : List Packet). get_or l 0 d) rest
+      ∙ get_or-drop n all 0 d ∙ ap (λ (m : ℕ). get_or all m d) (add-zero n)
+
+  pub rest_more : (p : Packet) → drop (n + 1) (set now n p) ≡ drop (n + 1) all
+  rest_more p = drop-set-lt (n + 1) now n p (omega arith) ∙ sym (drop-drop 1 n now) ∙ ap (drop 1) rest ∙ drop-drop 1 n all
+
+  -- one packet more is answered
+  pub answered_more : (sessions : List (List Transform)) (salt : List ℕ) (first : ℕ) (old new : Packet) → n < length now → length now ≡ length all
+      → old ≡ get_or now n old → answered_view new ≡ answered sessions salt (first + n) (read_view old)
+      → map answered_view (take n now) ≡ answered_from sessions salt first (map read_view (take n all))
+      → map answered_view (take (n + 1) (set now n new)) ≡ answered_from sessions salt first (map read_view (take (n + 1) all))
+  answered_more sessions salt first old new inside same old_is new_is before =
+      let front : take (n + 1) all ≡ take n all ++ old ∷ [] =
+      take_more all n old (omega arith) ∙ ap (λ (p : Packet). take n all ++ p ∷ []) (sym (old_is ∙ same_at old)) in
+      let count : length (map read_view (take n all)) ≡ n = length-map (take n all) read_view ∙ omega (arith, length-take n all) in
+      ap (map answered_view) (take_more_set now n new inside) ∙ map-append answered_view (take n now) (new ∷ [])
+      ∙ ap (λ (list : List Answered). list ++ answered_view new ∷ []) before
+      ∙ ap (λ (a : Answered). answered_from sessions salt first (map read_view (take n all)) ++ a ∷ []) new_is
+      ∙ ap (λ (m : ℕ). answered_from sessions salt first (map read_view (take n all)) ++ answered sessions salt (first + m) (read_view old) ∷ []) (sym count)
+      ∙ sym (ap (answered_from sessions salt first) (ap (map read_view) front ∙ map-append read_view (take n all) (old ∷ [])) ∙ answered_from-push sessions salt first (map read_view (take n all)) (read_view old))
+
+-- the n-th packet, seen in the list of all
+module _ (all : List Packet) (n : ℕ) (p : Packet) (inside : n < length all) (is : p ≡ get_or all n p) where
+  split_at : map answered_view all ≡ take n (map answered_view all) ++ answered_view p ∷ drop (n + 1) (map answered_view all)
+  split_at =
+      let len : n < length (map answered_view all) = omega (arith, length-map all answered_view) in
+      sym (take-append-drop n (map answered_view all)) ∙ ap (λ (l : List Answered). take n (map answered_view all) ++ l)
+      (drop-cons (map answered_view all) n (answered_view p) len ∙ rw (get_or-map answered_view all n p (answered_view p) inside ∙ ap answered_view (sym is), ← add-one) refl)
+
+  pub cut_at : (big : Bool) (old mid new : List ℕ) → mid ≡ old ++ flat_map (answer_bytes big) (take n (map answered_view all))
+      → AppendsPart mid new (answer_bytes big (answered_view p)) → CutAt big (map answered_view all) n old new
+  cut_at big old mid new before part = record {
+    next = answered_view p;
+    others = drop (n + 1) (map answered_view all);
+    split = split_at;
+    part = (part.0, part.1, part.2 ∙ ap (λ (l : List ℕ). l ++ take part.0 (answer_bytes big (answered_view p))) before);
+  }
+
+-- a count does not depend on where the test looks
+pub count_by_map : {X Y : Type 0} (f : X → Y) (test : Y → Bool) (xs : List X) → count_by test (map f xs) ≡ count_by (λ x. test (f x)) xs
+count_by_map f test [] = refl
+count_by_map f test (x ∷ xs) =
+    sum_by-cons (λ y. cond (test y) 1 0) (f x) (map f xs) ∙ ap (λ (n : ℕ). cond (test (f x)) 1 0 + n) (count_by_map f test xs)
+    ∙ sym (sum_by-cons (λ y. cond (test (f y)) 1 0) x xs)

@@ -1,0 +1,56 @@
+-- The number and the text of each ending.
+use Rattle.std.specs.Prelude.{◌+◌, ◌&&◌, ℕ, Bool, true, false, List, [], ◌∷◌, ◌++◌, codes, decimal, if◌then◌else◌}
+use Rattle.capture_io.specs.declared.header.CaptureCause.{CaptureCause}
+use Rattle.capture_io.specs.declared.header.CaptureCause.TheVariants.{ShortHeader, BadMagic, BadVersion, ShortRecord, ShortData, FormNotBuilt}
+use Rattle.capcrypt.specs.declared.ending.Counts.{Counts}
+use Rattle.capcrypt.specs.declared.ending.Outcome.{Outcome}
+use Rattle.capcrypt.specs.declared.ending.Ending.{Ending}
+use Rattle.capcrypt.specs.declared.ending.Ending.TheVariants.{Done, Memory, Usage, Capture, ReadFault, WriteFault, TooLarge}
+
+abbrev pub number_of : Ending → ℕ
+number_of Done = 0
+number_of Memory = 1
+number_of Usage = 2
+number_of (Capture at cause) = 3
+number_of ReadFault = 5
+number_of WriteFault = 6
+number_of (TooLarge value) = 8
+
+abbrev pub cause_name : CaptureCause → List ℕ
+cause_name ShortHeader = codes "short_header"
+cause_name BadMagic = codes "bad_magic"
+cause_name BadVersion = codes "bad_version"
+cause_name ShortRecord = codes "short_record"
+cause_name ShortData = codes "short_data"
+cause_name FormNotBuilt = codes "form_not_built"
+
+abbrev pub last_line : Ending → List ℕ
+last_line Done = codes "status=0\n"
+last_line Memory = codes "status=1 memory\n"
+last_line Usage = codes "status=2 usage\n"
+last_line (Capture at cause) = codes "status=3 capture at=" ++ decimal at ++ codes " cause=" ++ cause_name cause ++ codes "\n"
+last_line ReadFault = codes "status=5 read fault\n"
+last_line WriteFault = codes "status=6 write fault\n"
+last_line (TooLarge value) = codes "status=8 too large value=" ++ decimal value ++ codes "\n"
+
+abbrev pub first_line : Counts → List ℕ
+first_line c = codes "packets=" ++ decimal c.packets ++ codes " success=" ++ decimal c.success ++ codes " auth_failed=" ++ decimal c.auth_failed
+    ++ codes " invalid_args=" ++ decimal c.invalid_args ++ codes " short=" ++ decimal c.short ++ codes " passed=" ++ decimal c.passed ++ codes "\n"
+
+-- one line for each device, from number n on
+abbrev pub device_lines : ℕ → List ℕ → List ℕ
+device_lines n [] = []
+device_lines n (m ∷ ms) = (codes "device " ++ decimal n ++ codes " operations=" ++ decimal m ++ codes "\n") ++ device_lines (n + 1) ms
+
+-- whether the devices stand in the report of a run that read the header
+abbrev pub counts_devices : Ending → Bool
+counts_devices Done = true
+counts_devices (Capture at cause) = true
+counts_devices (TooLarge value) = true
+counts_devices _ = false
+
+abbrev pub listed : Outcome → List ℕ → List ℕ
+listed o devices = if o.header && counts_devices o.ending then device_lines 0 devices else []
+
+abbrev pub report_of : Outcome → List ℕ → List ℕ
+report_of o devices = first_line o.counts ++ listed o devices ++ last_line o.ending

@@ -1,0 +1,128 @@
+//! What a run tells.
+ghost use Rattle.std.specs.Prelude.{◌≡◌, ◌+◌, ◌*◌, ◌≤◌, ◌<◌, ◌++◌, ℕ, List, [], length, take, drop, codes, decimal, OnOk, OnErr, if◌then◌else◌, true, ◌∷◌};
+ghost use Rattle.crypto_model.specs.Counts.{Rose};
+ghost use Rattle.capcrypt.specs.Report.{cause_name, last_line, first_line, device_lines, counts_devices, listed, report_of};
+ghost use Rattle.capcrypt.specs.Ran.{AppendsFront};
+ghost use Rattle.capcrypt.specs.LineText.{line_text};
+
+use crate::ending::{Counts, Ending, Outcome};
+use crate::line::Line;
+use capture_io::{CaptureCause, Sink, WriteFault, write_all};
+
+fn name_of(cause: CaptureCause) -> &'static [u8]
+    ensures text { result.now ≡ cause_name cause }
+    ensures length { length result.now ≤ 14 }
+{
+    match cause {
+        CaptureCause::ShortHeader => b"short_header",
+        CaptureCause::BadMagic => b"bad_magic",
+        CaptureCause::BadVersion => b"bad_version",
+        CaptureCause::ShortRecord => b"short_record",
+        CaptureCause::ShortData => b"short_data",
+        CaptureCause::FormNotBuilt => b"form_not_built",
+    }
+}
+
+fn line_of_counts(counts: &Counts) -> Line
+    ensures { line_text result ≡ first_line counts.now }
+{
+    let mut line = Line::new();
+    line.field(b"packets=", counts.packets);
+    line.field(b" success=", counts.success);
+    line.field(b" auth_failed=", counts.auth_failed);
+    line.field(b" invalid_args=", counts.invalid_args);
+    line.field(b" short=", counts.short);
+    line.field(b" passed=", counts.passed);
+    line.push(b"\n");
+    line
+}
+
+fn line_of_device(number: u64, operations: u64) -> Line
+    ensures { line_text result ≡ codes "device " ++ decimal number ++ codes " operations=" ++ decimal operations ++ codes "\n" }
+{
+    let mut line = Line::new();
+    line.field(b"device ", number);
+    line.field(b" operations=", operations);
+    line.push(b"\n");
+    line
+}
+
+fn line_of_ending(ending: &Ending) -> Line
+    ensures { line_text result ≡ last_line ending.now }
+{
+    let mut line = Line::new();
+    match *ending {
+        Ending::Done => line.push(b"status=0\n"),
+        Ending::Memory => line.push(b"status=1 memory\n"),
+        Ending::Usage => line.push(b"status=2 usage\n"),
+        Ending::Capture { at, cause } => {
+            line.field(b"status=3 capture at=", at);
+            line.push(b" cause=");
+            line.push(name_of(cause));
+            line.push(b"\n");
+        }
+        Ending::ReadFault => line.push(b"status=5 read fault\n"),
+        Ending::WriteFault => line.push(b"status=6 write fault\n"),
+        Ending::TooLarge(value) => {
+            line.field(b"status=8 too large value=", value);
+            line.push(b"\n");
+        }
+    }
+    line
+}
+
+fn counts_devices(ending: &Ending) -> bool
+    ensures { result ≡ counts_devices ending.now }
+{
+    matches!(
+        ending,
+        Ending::Done | Ending::Capture { .. } | Ending::TooLarge(_)
+    )
+}
+
+fn write_devices<E: Sink>(report: &mut E, devices: &[u64]) -> Result<(), WriteFault>
+    ensures written { E.tells → OnOk result (E.written report.new ≡ E.written report.old ++ device_lines 0 devices.now) }
+    ensures fault { E.tells → OnErr result (AppendsFront (E.written report.old) (E.written report.new) (device_lines 0 devices.now)) }
+    ensures later { E.faults report.old ≤ E.faults report.new }
+    ensures cause { OnErr result (Rose (E.faults report.old) (E.faults report.new)) }
+{
+    for (i, operations) in devices.iter().enumerate() {
+        write_all(report, line_of_device(i as u64, *operations).text())?;
+    }
+    Ok(())
+}
+
+// The lines of the devices, where they stand in the report.
+fn write_listed<E: Sink>(
+    report: &mut E,
+    outcome: &Outcome,
+    devices: &[u64],
+) -> Result<(), WriteFault>
+    ensures written { E.tells → OnOk result (E.written report.new ≡ E.written report.old ++ listed outcome.now devices.now) }
+    ensures fault { E.tells → OnErr result (AppendsFront (E.written report.old) (E.written report.new) (listed outcome.now devices.now)) }
+    ensures later { E.faults report.old ≤ E.faults report.new }
+    ensures cause { OnErr result (Rose (E.faults report.old) (E.faults report.new)) }
+{
+    if outcome.header && counts_devices(&outcome.ending) {
+        write_devices(report, devices)
+    } else {
+        Ok(())
+    }
+}
+
+/// Writes a report, and flushes. At a fault a front of it was written.
+pub(crate) fn write_report<E: Sink>(
+    report: &mut E,
+    outcome: &Outcome,
+    devices: &[u64],
+) -> Result<(), WriteFault>
+    ensures written { E.tells → OnOk result (E.written report.new ≡ E.written report.old ++ report_of outcome.now devices.now) }
+    ensures fault { E.tells → OnErr result (AppendsFront (E.written report.old) (E.written report.new) (report_of outcome.now devices.now)) }
+    ensures later { E.faults report.old ≤ E.faults report.new }
+    ensures cause { OnErr result (Rose (E.faults report.old) (E.faults report.new)) }
+{
+    write_all(report, line_of_counts(&outcome.counts).text())?;
+    write_listed(report, outcome, devices)?;
+    write_all(report, line_of_ending(&outcome.ending).text())?;
+    report.flush()
+}

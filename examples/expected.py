@@ -1,0 +1,114 @@
+#!/usr/bin/env python3
+"""Makes what capcrypt must answer to each example: expected.py [FOLDER], by default beside this script.
+
+It reads the captures that make.py left in FOLDER and writes FOLDER/expected and FOLDER/cases.txt.
+The cipher is openssl's, and how many records are whole is stated in the table below: nothing here
+runs capcrypt, or decides what it must refuse.
+"""
+
+import os
+import struct
+import subprocess
+import sys
+
+HERE = os.path.dirname(os.path.abspath(__file__))
+FOLDER = sys.argv[1] if len(sys.argv) > 1 else HERE
+
+KEY, SALT = "ae6852f8121067cc4bf7a5765577f39e", "00000030"
+KEY_192 = "16af5b145fc9f579c175f93e3bfb0eed863d06ccfdb78515"
+KEY_256 = "776beff2851db06f4c8a0542c8696f6c6a81af1eec96b4d37fc1d689e6c1c104"
+# The ciphertext of the first test vector of RFC 3686, under KEY and SALT.
+VECTOR = bytes.fromhex("e4095d4fb7a7b3792d6175a3261311b8")
+
+# The case's name, its capture, the key, the salt, how many packets are written (None: not even
+# the header) and the report's last line.
+CASES = [
+    ("vector", "vector", KEY, SALT, 1, "status=0"),
+    ("vector-upper", "vector", KEY.upper(), SALT, 1, "status=0"),
+    ("ten-little-micro", "ten-little-micro", KEY, SALT, 10, "status=0"),
+    ("ten-little-nano", "ten-little-nano", KEY, SALT, 10, "status=0"),
+    ("ten-big-micro", "ten-big-micro", KEY, SALT, 10, "status=0"),
+    ("ten-big-nano", "ten-big-nano", KEY, SALT, 10, "status=0"),
+    ("key-192", "ten-little-micro", KEY_192, SALT, 10, "status=0"),
+    ("key-256", "ten-little-micro", KEY_256, SALT, 10, "status=0"),
+    ("header-only", "header-only", KEY, SALT, 0, "status=0"),
+    ("wide", "wide", KEY, SALT, 1, "status=0"),
+    ("short-header", "short-header", KEY, SALT, None, "status=3 capture at=0 cause=short_header"),
+    ("no-magic", "no-magic", KEY, SALT, None, "status=3 capture at=0 cause=bad_magic"),
+    ("bad-version", "bad-version", KEY, SALT, None, "status=3 capture at=4 cause=bad_version"),
+    ("torn", "torn", KEY, SALT, 2, "status=3 capture at=176 cause=short_record"),
+    ("cut", "cut", KEY, SALT, 1, "status=3 capture at=100 cause=short_data"),
+    ("large", "large", KEY, SALT, 1, "status=8 too large value=262145"),
+    ("large-original", "large-original", KEY, SALT, 1, "status=8 too large value=4294967232"),
+]
+
+# Words that are no call of capcrypt.
+USAGE = [
+    ("no-words", ""),
+    ("no-salt", f"quick {KEY}"),
+    ("extra-word", f"quick {KEY} {SALT} {SALT}"),
+    ("other-word", f"slow {KEY} {SALT}"),
+    ("short-key", f"quick {KEY[:-1]} {SALT}"),
+    ("long-key", f"quick {KEY_256}00 {SALT}"),
+    ("key-not-hex", f"quick {KEY[:-1]}g {SALT}"),
+    ("short-salt", f"quick {KEY} {SALT[:-1]}"),
+    ("salt-not-hex", f"quick {KEY} 0x000030"),
+]
+
+
+def encrypt(key, salt, n, data):
+    words = ["openssl", "enc", f"-aes-{4 * len(key)}-ctr", "-nosalt", "-K", key]
+    words += ["-iv", f"{salt}{n:016x}00000001"]
+    return subprocess.run(words, input=data, stdout=subprocess.PIPE, check=True).stdout
+
+
+def answer(capture, key, salt, packets):
+    """The header with its snaplen raised, and this many records with their data encrypted."""
+    order = "<" if capture[0] in (0xD4, 0x4D) else ">"
+    (snaplen,) = struct.unpack_from(order + "I", capture, 16)
+    made = capture[:16] + struct.pack(order + "I", max(snaplen, 262208)) + capture[20:24]
+    at = 24
+    for n in range(packets):
+        (length,) = struct.unpack_from(order + "I", capture, at + 8)
+        data = capture[at + 16 : at + 16 + length]
+        made += capture[at : at + 16] + encrypt(key, salt, n, data)
+        at += 16 + length
+    return made
+
+
+def write(name, data):
+    with open(os.path.join(FOLDER, name), "wb") as file:
+        file.write(data)
+
+
+def report(name, packets, last):
+    counts = f"packets={packets or 0} success={packets or 0}"
+    lines = [f"{counts} auth_failed=0 invalid_args=0 short=0 passed=0"]
+    if packets is not None:
+        lines.append(f"device 0 operations={packets}")
+    text = "".join(f"{line}\n" for line in [*lines, last])
+    write(f"expected/{name}.report", text.encode())
+
+
+os.makedirs(os.path.join(FOLDER, "expected"), exist_ok=True)
+table = ["# case, capture, status, expected output (none: nothing is written), words"]
+for name, source, key, salt, packets, last in CASES:
+    output = "none"
+    if packets is not None:
+        output = f"expected/{name}.pcap"
+        with open(os.path.join(FOLDER, source + ".pcap"), "rb") as file:
+            capture = file.read()
+        made = answer(capture, key, salt, packets)
+        if source == "vector":
+            # What is written is the published ciphertext, and openssl has to agree with it.
+            if made[40:] != VECTOR:
+                sys.exit("openssl and the test vector of RFC 3686 differ")
+            made = made[:40] + VECTOR
+        write(output, made)
+    report(name, packets, last)
+    status = last[len("status=")]
+    table.append(f"{name} {source}.pcap {status} {output} quick {key} {salt}")
+for name, words in USAGE:
+    report(name, None, "status=2 usage")
+    table.append(f"{name} vector.pcap 2 none {words}".rstrip())
+write("cases.txt", "".join(f"{line}\n" for line in table).encode())

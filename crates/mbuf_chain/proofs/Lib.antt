@@ -1,0 +1,6 @@
+pub mod Chains
+pub mod Pieces
+pub mod EndCuts
+pub mod Walks
+pub mod WalksBy
+pub mod EndPackets

@@ -1,0 +1,6 @@
+pub mod Chain
+pub mod Piece
+pub mod Lending
+pub mod Ends
+pub mod Refusals
+pub mod Emptied

@@ -1,0 +1,284 @@
+//! One packet, in segments.
+ghost use Rattle.std.specs.Prelude.{◌≡◌, ◌↔◌, ◌+◌, ◌-◌, ◌<◌, ◌≤◌, [], ◌∷◌, ◌++◌, length, take, drop, replicate, slice_index_or, IfOk, IfErr, IsErr, OnOk, OnErr};
+ghost use Rattle.std.specs.Borrow.{sem};
+ghost use Rattle.std.specs.Result.{IsErrOf};
+ghost use Rattle.crypto_model.specs.Chain.{laid_at};
+ghost use Rattle.seg_list.specs.Buffer.{Buffer};
+ghost use Rattle.mbuf_chain.specs.Chain.{packet_of, with_packet};
+ghost use Rattle.mbuf_chain.specs.Piece.{LiesAt, piece_len};
+ghost use Rattle.mbuf_chain.specs.Lending.{LendsPiece};
+ghost use Rattle.mbuf_chain.specs.Ends.{cut_back, cut_front, cut_to, first_of, last_of, on_first, on_last, zeros_before, zeros_behind};
+ghost use Rattle.mbuf_chain.specs.Refusals.{seg_of};
+
+use crate::{AddRefused, NoHeadroom, NoTailroom, TooManySegs, TooShort};
+use seg_list::{Seg, SegList};
+use std::alloc::Global;
+use std::marker::Model;
+
+const MOST_SEGS: usize = 256;
+
+const SEG_SIZE: usize = 2048;
+
+/// A packet of 1 to 256 segments, which contracts see as the list of their buffers. Its bytes are the
+/// data of its segments, one after another.
+#[derive(Drop)]
+pub struct Mbuf {
+    segs: SegList,
+}
+
+impl Model for Mbuf {
+    ghost use Rattle.std.specs.Prelude.{◌<◌, List, length};
+    ghost use Rattle.seg_list.specs.Buffer.{Buffer};
+
+    ghost Value = { List Buffer };
+
+    ghost view = { λ m. m.segs };
+
+    ghost invariant = { λ m. 0 < length m.segs };
+}
+
+impl Mbuf {
+    /// A packet of one segment, which is handed back where memory is wanting.
+    pub fn new(alloc: Global, seg: Seg) -> Result<Mbuf, Seg>
+        ensures made { IfOk result (λ m. m ≡ seg ∷ []) }
+        ensures refused { IfErr result (λ s. s ≡ seg) }
+    {
+        let Ok(mut segs) = SegList::new(alloc) else {
+            return Err(seg);
+        };
+        match segs.push_back(seg) {
+            Ok(()) => Ok(Mbuf { segs }),
+            Err(seg) => Err(seg),
+        }
+    }
+
+    pub fn segs(&self) -> &SegList
+        ensures { result.now ≡ self.now }
+    {
+        &self.segs
+    }
+
+    pub fn seg_count(&self) -> usize
+        ensures value { result ≡ length self.now }
+        ensures range { (0 < result) × (result ≤ 256) }
+    {
+        self.segs.len()
+    }
+
+    /// The number of the packet's bytes.
+    pub fn len(&self) -> usize
+        ensures value { result ≡ length (packet_of self.now) }
+        ensures most { result ≤ 524288 }
+    {
+        let mut all = 0usize;
+        for i in 0..self.segs.len() {
+            all += self.segs.get(i).len();
+        }
+        all
+    }
+
+    /// Puts `n` zero bytes behind the last segment's data.
+    pub fn append(&mut self, n: usize) -> Result<(), NoTailroom>
+        ensures which { IsErr result ↔ length (last_of self.old).after < n }
+        ensures grown { OnOk result (self.new ≡ on_last (zeros_behind n) self.old) }
+        ensures packet { OnOk result (packet_of self.new ≡ packet_of self.old ++ replicate n 0) }
+        ensures refused { OnErr result (self.new ≡ self.old) }
+    {
+        let last = self.segs.len() - 1;
+        let seg = self.segs.get_mut(last);
+        let off = seg.off();
+        let len = seg.len();
+        if SEG_SIZE - off - len < n {
+            return Err(NoTailroom);
+        }
+        seg.set(off, len + n);
+        zero(seg.part_mut(len, n));
+        Ok(())
+    }
+
+    /// Puts `n` zero bytes before the first segment's data.
+    pub fn prepend(&mut self, n: usize) -> Result<(), NoHeadroom>
+        ensures which { IsErr result ↔ length (first_of self.old).before < n }
+        ensures grown { OnOk result (self.new ≡ on_first (zeros_before n) self.old) }
+        ensures packet { OnOk result (packet_of self.new ≡ replicate n 0 ++ packet_of self.old) }
+        ensures refused { OnErr result (self.new ≡ self.old) }
+    {
+        let seg = self.segs.get_mut(0);
+        let off = seg.off();
+        let len = seg.len();
+        if off < n {
+            return Err(NoHeadroom);
+        }
+        seg.set(off - n, len + n);
+        zero(seg.part_mut(0, n));
+        Ok(())
+    }
+
+    /// Cuts `n` bytes at the front of the first segment.
+    pub fn adj(&mut self, n: usize) -> Result<(), TooShort>
+        ensures which { IsErr result ↔ length (first_of self.old).body < n }
+        ensures cut { OnOk result (self.new ≡ on_first (cut_front n) self.old) }
+        ensures packet { OnOk result (packet_of self.new ≡ drop n (packet_of self.old)) }
+        ensures refused { OnErr result (self.new ≡ self.old) }
+    {
+        let seg = self.segs.get_mut(0);
+        let len = seg.len();
+        if len < n {
+            return Err(TooShort);
+        }
+        let off = seg.off();
+        seg.set(off + n, len - n);
+        Ok(())
+    }
+
+    /// Cuts `n` bytes at the end of the last segment.
+    pub fn trim(&mut self, n: usize) -> Result<(), TooShort>
+        ensures which { IsErr result ↔ length (last_of self.old).body < n }
+        ensures cut { OnOk result (self.new ≡ on_last (cut_back n) self.old) }
+        ensures packet { OnOk result (packet_of self.new ≡ take (length (packet_of self.old) - n) (packet_of self.old)) }
+        ensures refused { OnErr result (self.new ≡ self.old) }
+    {
+        let last = self.segs.len() - 1;
+        let seg = self.segs.get_mut(last);
+        let len = seg.len();
+        if len < n {
+            return Err(TooShort);
+        }
+        let off = seg.off();
+        seg.set(off, len - n);
+        Ok(())
+    }
+
+    /// Cuts the packet to its first `len` bytes. The segments that then hold none of them are dropped,
+    /// but for the first one.
+    pub fn truncate(&mut self, len: usize)
+        requires { len ≤ length (packet_of self.old) }
+        ensures cut { self.new ≡ cut_to len self.old }
+        ensures packet { packet_of self.new ≡ take len (packet_of self.old) }
+    {
+        let mut surplus = self.len() - len;
+        let mut count = self.segs.len();
+        let mut last = self.segs.get(count - 1).len();
+        while 1 < count && last <= surplus {
+            let _dropped = self.segs.pop_back();
+            surplus -= last;
+            count -= 1;
+            last = self.segs.get(count - 1).len();
+        }
+        let seg = self.segs.get_mut(count - 1);
+        let off = seg.off();
+        seg.set(off, last - surplus);
+    }
+
+    /// Links the segments of `other` behind these. Takes no memory.
+    pub fn chain(&mut self, other: Mbuf) -> Result<(), TooManySegs>
+        ensures which { IsErr result ↔ 256 < length self.old + length other }
+        ensures linked { OnOk result (self.new ≡ self.old ++ other) }
+        ensures packet { OnOk result (packet_of self.new ≡ packet_of self.old ++ packet_of other) }
+        ensures refused { IfErr result (λ e. (e.0 ≡ other) × (self.new ≡ self.old)) }
+    {
+        if MOST_SEGS < self.segs.len() + other.segs.len() {
+            return Err(TooManySegs(other));
+        }
+        let Mbuf { segs } = other;
+        self.segs.append(segs);
+        Ok(())
+    }
+
+    /// Links one segment behind these.
+    pub fn add_seg(&mut self, seg: Seg) -> Result<(), AddRefused>
+        ensures which { IsErrOf result (AddRefused.TooManySegs seg) ↔ length self.old ≡ 256 }
+        ensures added { OnOk result (self.new ≡ self.old ++ seg ∷ []) }
+        ensures packet { OnOk result (packet_of self.new ≡ packet_of self.old ++ seg.body) }
+        ensures refused { IfErr result (λ e. (seg_of e ≡ seg) × (self.new ≡ self.old)) }
+    {
+        if self.segs.len() == MOST_SEGS {
+            return Err(AddRefused::TooManySegs(seg));
+        }
+        self.segs.push_back(seg).map_err(AddRefused::OutOfMemory)
+    }
+
+    /// Copies the packet's bytes from `off` on into all of `out`.
+    pub fn read_at(&self, off: usize, out: &mut [u8])
+        requires { off + length out.old ≤ length (packet_of self.now) }
+        ensures { out.new ≡ take (length out.old) (drop off (packet_of self.now)) }
+    {
+        let _all = self.len();
+        let mut done = 0;
+        while done < out.len() {
+            let (i, at) = find(&self.segs, off + done);
+            let data = self.segs.get(i).data();
+            let n = (data.len() - at).min(out.len() - done);
+            out[done..done + n].copy_from_slice(&data[at..at + n]);
+            done += n;
+        }
+    }
+
+    pub fn write_at(&mut self, off: usize, bytes: &[u8])
+        requires { off + length bytes.now ≤ length (packet_of self.old) }
+        ensures { self.new ≡ with_packet self.old (laid_at off bytes.now (packet_of self.old)) }
+    {
+        let _all = self.len();
+        let mut done = 0;
+        while done < bytes.len() {
+            let piece = self.piece_mut(off + done, bytes.len() - done);
+            let n = piece.len();
+            piece.copy_from_slice(&bytes[done..done + n]);
+            done += n;
+        }
+    }
+
+    /// Lends the longest front of the range that lies in one segment.
+    pub fn piece(&self, off: usize, len: usize) -> &[u8]
+        requires within { off + len ≤ length (packet_of self.now) }
+        requires some { 0 < len }
+        ensures value { result.now ≡ take (piece_len off len self.now) (drop off (packet_of self.now)) }
+        ensures size { length result.now ≡ piece_len off len self.now }
+        ensures range { (0 < length result.now) × (length result.now ≤ len) }
+    {
+        let (i, at) = find(&self.segs, off);
+        let data = self.segs.get(i).data();
+        let n = len.min(data.len() - at);
+        &data[at..at + n]
+    }
+
+    /// Lends the longest front of the range that lies in one segment, to be written.
+    pub fn piece_mut(&mut self, off: usize, len: usize) -> &mut [u8]
+        requires within { off + len ≤ length (packet_of self.old) }
+        requires some { 0 < len }
+        ensures* writes_back { sem 𝓛 (LendsPiece self.entry off result) }
+        ensures value { result.now ≡ take (piece_len off len self.old) (drop off (packet_of self.old)) }
+        ensures size { length result.now ≡ piece_len off len self.old }
+        ensures range { (0 < length result.now) × (length result.now ≤ len) }
+    {
+        let (i, at) = find(&self.segs, off);
+        let seg = self.segs.get_mut(i);
+        let n = len.min(seg.len() - at);
+        seg.part_mut(at, n)
+    }
+}
+
+fn zero(piece: &mut [u8])
+    ensures { piece.new ≡ replicate (length piece.old) 0 }
+{
+    for byte in piece {
+        *byte = 0;
+    }
+}
+
+// The segment that holds the byte at `off`, and the byte's place in its data.
+fn find(segs: &SegList, off: usize) -> (usize, usize)
+    requires { off < length (packet_of segs.now) }
+    ensures within { result.0 < length segs.now }
+    ensures lies { (b : Buffer) → slice_index_or segs.now result.0 b ≡ b → LiesAt segs.now off result.0 result.1 b }
+{
+    let mut at = off;
+    for i in 0..segs.len() {
+        let n = segs.get(i).len();
+        if at < n {
+            return (i, at);
+        }
+        at -= n;
+    }
+    unreachable!()
+}

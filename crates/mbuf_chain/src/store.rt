@@ -1,0 +1,54 @@
+//! Where the segments of packets come from.
+ghost use Rattle.std.specs.Prelude.{◌≡◌, IfOk};
+ghost use Rattle.std.specs.Result.{IsErrOf};
+ghost use Rattle.mbuf_chain.specs.Emptied.{IsEmptied};
+ghost use Rattle.mbuf_chain.specs.declared.store.NoSeg.TheVariants.{Empty};
+
+use seg_list::Seg;
+use std::alloc::Global;
+use thiserror::Error;
+
+/// Why a store gave no segment.
+#[derive(Clone, Copy, Debug, PartialEq, Eq, Error)]
+pub enum NoSeg {
+    #[error("no segment is left")]
+    Empty,
+    #[error("out of memory")]
+    OutOfMemory,
+}
+
+/// Gives segments, and takes them back. One that is `endless` never answers `Empty`.
+pub trait SegStore {
+    ghost endless: { Type 0 };
+
+    /// A segment of offset 0 with no data. What its other bytes are isn't said.
+    fn take(&mut self) -> Result<Seg, NoSeg>
+        ensures emptied { IfOk result IsEmptied }
+        ensures endless { endless → ¬ (IsErrOf result Empty) };
+
+    fn give(&mut self, seg: Seg);
+}
+
+/// Makes each segment anew, and drops what is given back.
+#[derive(Drop)]
+pub struct FreshSegs {
+    alloc: Global,
+}
+
+impl FreshSegs {
+    pub fn new(alloc: Global) -> FreshSegs {
+        FreshSegs { alloc }
+    }
+}
+
+impl SegStore for FreshSegs {
+    ghost endless = { Unit {0} };
+
+    fn take(&mut self) -> Result<Seg, NoSeg> {
+        Seg::new(self.alloc, 0).map_err(|_| NoSeg::OutOfMemory)
+    }
+
+    fn give(&mut self, seg: Seg) {
+        drop(seg);
+    }
+}

@@ -82,9 +82,10 @@ def write(name, data):
 
 
 def report(name, packets, last):
-    counts = f"packets={packets or 0} success={packets or 0}"
-    lines = [f"{counts} auth_failed=0 invalid_args=0 short=0 passed=0"]
+    lines = []
     if packets is not None:
+        counts = f"packets={packets} success={packets}"
+        lines.append(f"{counts} auth_failed=0 invalid_args=0 short=0 passed=0")
         lines.append(f"device 0 operations={packets}")
     text = "".join(f"{line}\n" for line in [*lines, last])
     write(f"expected/{name}.report", text.encode())

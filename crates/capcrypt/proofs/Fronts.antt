@@ -1,5 +1,5 @@
 -- Texts that are written piece by piece.
-use Rattle.std.proofs.Common.{◌≡◌, ℕ, suc, ◌+◌, ◌<◌, ◌≤◌, List, [], ◌∷◌, ◌++◌, length, take, drop, get_or, min, codes, decimal, ◌∙◌, ap, sym, arith, append_assoc, length-take, Result, Ok, Err, OnOk, OnErr}
+use Rattle.std.proofs.Common.{◌≡◌, ℕ, suc, ◌+◌, ◌<◌, ◌≤◌, List, [], ◌∷◌, ◌++◌, length, take, drop, get_or, min, codes, decimal, ◌∙◌, refl, ap, sym, arith, append_assoc, length-take, Result, Ok, Err, OnOk, OnErr}
 use Rattle.std.proofs.lemmas.List.{append-nil, take_all, take_min, take-append-le, take_more, take-append-drop}
 use Rattle.std.proofs.Math.Seq.{take-append-add, drop-cons}
 use Rattle.capcrypt.specs.Report.{device_lines}
@@ -55,19 +55,21 @@ pub on_ok_from : {T E P : Type 0} (r : Result T E) → P → OnOk r P
 on_ok_from (Ok x) p = p
 on_ok_from (Err e) p = tt
 
--- three pieces
-module _ (a b d old new1 new2 new3 : List ℕ) where
-  whole_first : (a ++ b) ++ d ≡ [] ++ (a ++ (b ++ d))
-  whole_first = append_assoc a b d
+pub on_ok_map : {T E P Q : Type 0} (r : Result T E) → (P → Q) → OnOk r P → OnOk r Q
+on_ok_map (Ok x) f p = f p
+on_ok_map (Err e) f p = tt
 
-  pub first_failed : AppendsFront old new1 a → AppendsFront old new1 ((a ++ b) ++ d)
-  first_failed front = front_within [] a (b ++ d) ((a ++ b) ++ d) old old new1 whole_first (sym (append-nil old)) front
+pub on_err_map : {T E P Q : Type 0} (r : Result T E) → (P → Q) → OnErr r P → OnErr r Q
+on_err_map (Ok x) f p = tt
+on_err_map (Err e) f p = f p
 
-  pub second_failed : new1 ≡ old ++ a → AppendsFront new1 new2 b → AppendsFront old new2 ((a ++ b) ++ d)
-  second_failed one front = front_within a b d ((a ++ b) ++ d) old new1 new2 (append_assoc a b d) one front
+-- two pieces
+module _ (a b old new1 new2 : List ℕ) where
+  pub first_failed : AppendsFront old new1 a → AppendsFront old new1 (a ++ b)
+  first_failed front = front_within [] a b (a ++ b) old old new1 refl (sym (append-nil old)) front
 
-  pub three_written : new1 ≡ old ++ a → new2 ≡ new1 ++ b → new3 ≡ new2 ++ d → new3 ≡ old ++ ((a ++ b) ++ d)
-  three_written one two three = three ∙ ap (λ (l : List ℕ). l ++ d) (two ∙ ap (λ (l : List ℕ). l ++ b) one ∙ append_assoc old a b) ∙ append_assoc old (a ++ b) d
+  pub second_failed : new1 ≡ old ++ a → AppendsFront new1 new2 b → AppendsFront old new2 (a ++ b)
+  second_failed one front = front_within a b [] (a ++ b) old new1 new2 (ap (λ (l : List ℕ). a ++ l) (sym (append-nil b))) one front
 
-  pub third_failed : new1 ≡ old ++ a → new2 ≡ new1 ++ b → AppendsFront new2 new3 d → AppendsFront old new3 ((a ++ b) ++ d)
-  third_failed one two front = front_within (a ++ b) d [] ((a ++ b) ++ d) old new2 new3 (ap (λ (l : List ℕ). (a ++ b) ++ l) (sym (append-nil d))) (two ∙ ap (λ (l : List ℕ). l ++ b) one ∙ append_assoc old a b) front
+  pub both_written : new1 ≡ old ++ a → new2 ≡ new1 ++ b → new2 ≡ old ++ (a ++ b)
+  both_written one two = two ∙ ap (λ (l : List ℕ). l ++ b) one ∙ append_assoc old a b

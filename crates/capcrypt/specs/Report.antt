@@ -42,15 +42,15 @@ abbrev pub device_lines : ℕ → List ℕ → List ℕ
 device_lines n [] = []
 device_lines n (m ∷ ms) = (codes "device " ++ decimal n ++ codes " operations=" ++ decimal m ++ codes "\n") ++ device_lines (n + 1) ms
 
--- whether the devices stand in the report of a run that read the header
-abbrev pub counts_devices : Ending → Bool
-counts_devices Done = true
-counts_devices (Capture at cause) = true
-counts_devices (TooLarge value) = true
-counts_devices _ = false
+-- whether packets and devices are counted in the report of a run that read the header
+abbrev pub is_counted : Ending → Bool
+is_counted Done = true
+is_counted (Capture at cause) = true
+is_counted (TooLarge value) = true
+is_counted _ = false
 
 abbrev pub listed : Outcome → List ℕ → List ℕ
-listed o devices = if o.header && counts_devices o.ending then device_lines 0 devices else []
+listed o devices = if o.header && is_counted o.ending then first_line o.counts ++ device_lines 0 devices else []
 
 abbrev pub report_of : Outcome → List ℕ → List ℕ
-report_of o devices = first_line o.counts ++ listed o devices ++ last_line o.ending
+report_of o devices = listed o devices ++ last_line o.ending

@@ -1,7 +1,7 @@
 //! What a run tells.
 ghost use Rattle.std.specs.Prelude.{◌≡◌, ◌+◌, ◌*◌, ◌≤◌, ◌<◌, ◌++◌, ℕ, List, [], length, take, drop, codes, decimal, OnOk, OnErr, if◌then◌else◌, true, ◌∷◌};
 ghost use Rattle.crypto_model.specs.Counts.{Rose};
-ghost use Rattle.capcrypt.specs.Report.{cause_name, last_line, first_line, device_lines, counts_devices, listed, report_of};
+ghost use Rattle.capcrypt.specs.Report.{cause_name, last_line, first_line, device_lines, is_counted, listed, report_of};
 ghost use Rattle.capcrypt.specs.Ran.{AppendsFront};
 ghost use Rattle.capcrypt.specs.LineText.{line_text};
 
@@ -71,8 +71,8 @@ fn line_of_ending(ending: &Ending) -> Line
     line
 }
 
-fn counts_devices(ending: &Ending) -> bool
-    ensures { result ≡ counts_devices ending.now }
+fn is_counted(ending: &Ending) -> bool
+    ensures { result ≡ is_counted ending.now }
 {
     matches!(
         ending,
@@ -92,7 +92,17 @@ fn write_devices<E: Sink>(report: &mut E, devices: &[u64]) -> Result<(), WriteFa
     Ok(())
 }
 
-// The lines of the devices, where they stand in the report.
+fn write_counts<E: Sink>(report: &mut E, counts: &Counts, devices: &[u64]) -> Result<(), WriteFault>
+    ensures written { E.tells → OnOk result (E.written report.new ≡ E.written report.old ++ (first_line counts.now ++ device_lines 0 devices.now)) }
+    ensures fault { E.tells → OnErr result (AppendsFront (E.written report.old) (E.written report.new) (first_line counts.now ++ device_lines 0 devices.now)) }
+    ensures later { E.faults report.old ≤ E.faults report.new }
+    ensures cause { OnErr result (Rose (E.faults report.old) (E.faults report.new)) }
+{
+    write_all(report, line_of_counts(counts).text())?;
+    write_devices(report, devices)
+}
+
+// The counts, where they stand in the report.
 fn write_listed<E: Sink>(
     report: &mut E,
     outcome: &Outcome,
@@ -103,8 +113,8 @@ fn write_listed<E: Sink>(
     ensures later { E.faults report.old ≤ E.faults report.new }
     ensures cause { OnErr result (Rose (E.faults report.old) (E.faults report.new)) }
 {
-    if outcome.header && counts_devices(&outcome.ending) {
-        write_devices(report, devices)
+    if outcome.header && is_counted(&outcome.ending) {
+        write_counts(report, &outcome.counts, devices)
     } else {
         Ok(())
     }
@@ -121,7 +131,6 @@ pub(crate) fn write_report<E: Sink>(
     ensures later { E.faults report.old ≤ E.faults report.new }
     ensures cause { OnErr result (Rose (E.faults report.old) (E.faults report.new)) }
 {
-    write_all(report, line_of_counts(&outcome.counts).text())?;
     write_listed(report, outcome, devices)?;
     write_all(report, line_of_ending(&outcome.ending).text())?;
     report.flush()

@@ -9,7 +9,7 @@ pub mod thin;
 
 pub use laws::{cipher_vectors, mode_vectors};
 pub use plain::{Act, CipherAlg, DigestPlace, Dir, Hash, OutOfMemory, Range, SessId, Status};
-pub use slow::{BadKeyLength, slow_encrypt};
+pub use slow::{BadKeyLength, Substitution, expanded, slow_encrypt};
 
 #[cfg(test)]
 mod tests;

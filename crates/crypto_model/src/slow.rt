@@ -1,4 +1,4 @@
-//! AES in the standard's own steps, which fast code is compared with.
+//! AES in the standard's own steps: the key schedule, and a cipher that fast code is compared with.
 ghost use Rattle.std.specs.Prelude.{◌++◌, drop, ◌-◌, ◌/◌, take, ◌≡◌, ◌+◌, ◌*◌, ◌<◌, ◌≤◌, ◌↔◌, ℕ, length, slice_index, IfOk, IsErr};
 ghost use Rattle.crypto_model.specs.Field.{inverse, product, sub_byte};
 ghost use Rattle.crypto_model.specs.Aes.{IsKeyLength, add_round_key, cipher, cipher_with, expanded, mix_columns, mixed, next_word, power, rounds, rounds_of, shift_rows, sub_bytes, temp_byte};
@@ -41,12 +41,21 @@ fn field_inverse(b: u8) -> u8
     found
 }
 
-// SubBytes on a byte.
-fn sub_byte(b: u8) -> u8
-    ensures { result ≡ sub_byte b }
-{
-    let c = field_inverse(b);
-    c ^ c.rotate_left(1) ^ c.rotate_left(2) ^ c.rotate_left(3) ^ c.rotate_left(4) ^ 0x63
+/// A way to compute SubBytes.
+pub trait Substitution {
+    /// SubBytes on a byte (FIPS 197, 5.1.1).
+    fn sub_byte(byte: u8) -> u8
+        ensures { result ≡ sub_byte byte };
+}
+
+// SubBytes by a search for the inverse, with no table.
+struct BySearch;
+
+impl Substitution for BySearch {
+    fn sub_byte(byte: u8) -> u8 {
+        let c = field_inverse(byte);
+        c ^ c.rotate_left(1) ^ c.rotate_left(2) ^ c.rotate_left(3) ^ c.rotate_left(4) ^ 0x63
+    }
 }
 
 fn sub_bytes(s: [u8; 16]) -> [u8; 16]
@@ -54,7 +63,7 @@ fn sub_bytes(s: [u8; 16]) -> [u8; 16]
 {
     let mut out = [0; 16];
     'bytes: for i in 0..16 {
-        out[i] = sub_byte(s[i]);
+        out[i] = BySearch::sub_byte(s[i]);
     }
     out
 }
@@ -102,48 +111,50 @@ fn add_round_key(w: &[u8], r: usize, s: [u8; 16]) -> [u8; 16]
     out
 }
 
+// x ^ 0, x ^ 1 and so on, as far as a schedule asks for them (FIPS 197, table 5).
+const ROUND_CONSTANTS: [u8; 10] = [0x01, 0x02, 0x04, 0x08, 0x10, 0x20, 0x40, 0x80, 0x1b, 0x36];
+
 fn power(n: usize) -> u8
+    requires { n < 10 }
     ensures { result ≡ power n }
 {
-    let mut x = 1;
-    'times: for _i in 0..n {
-        x = field_product(2, x);
-    }
-    x
+    ROUND_CONSTANTS[n]
 }
 
 // Byte `j` of the word temp, which is added to word `i - nk`.
-fn temp_byte(nk: usize, w: &[u8], i: usize, j: usize) -> u8
+fn temp_byte<S: Substitution>(nk: usize, w: &[u8], i: usize, j: usize) -> u8
     requires low { 4 ≤ nk }
     requires word { nk ≤ i }
+    requires last { i < 4 * (nk + 7) }
     requires byte { j < 4 }
     requires room { 4 * i ≤ length w.now }
     ensures { result ≡ temp_byte nk w.now i j }
 {
     if i % nk == 0 {
-        let turn = sub_byte(w[4 * (i - 1) + (j + 1) % 4]);
+        let turn = S::sub_byte(w[4 * (i - 1) + (j + 1) % 4]);
         if j == 0 {
             turn ^ power(i / nk - 1)
         } else {
             turn
         }
     } else if nk == 8 && i % 8 == 4 {
-        sub_byte(w[4 * (i - 1) + j])
+        S::sub_byte(w[4 * (i - 1) + j])
     } else {
         w[4 * (i - 1) + j]
     }
 }
 
 // Word `i` of the key schedule from the words before it.
-fn next_word(nk: usize, w: &[u8], i: usize) -> [u8; 4]
+fn next_word<S: Substitution>(nk: usize, w: &[u8], i: usize) -> [u8; 4]
     requires low { 4 ≤ nk }
     requires word { nk ≤ i }
+    requires last { i < 4 * (nk + 7) }
     requires room { 4 * i ≤ length w.now }
     ensures { result ≡ next_word nk w.now i }
 {
     let mut out = [0; 4];
     'bytes: for j in 0..4 {
-        out[j] = w[4 * (i - nk) + j] ^ temp_byte(nk, w, i, j);
+        out[j] = w[4 * (i - nk) + j] ^ temp_byte::<S>(nk, w, i, j);
     }
     out
 }
@@ -155,8 +166,8 @@ fn put(list: &mut [u8], at: usize, bytes: &[u8])
     list[at..at + bytes.len()].copy_from_slice(bytes);
 }
 
-// The key schedule, and zeros behind it.
-fn expanded(key: &[u8]) -> [u8; 240]
+/// The key schedule of AES (FIPS 197, 5.2), with zeros behind it.
+pub fn expanded<S: Substitution>(key: &[u8]) -> [u8; 240]
     requires { IsKeyLength (length key.now) }
     ensures schedule { take (16 * (rounds_of key.now + 1)) result ≡ expanded key.now }
     ensures begins { take (length key.now) result ≡ key.now }
@@ -165,7 +176,7 @@ fn expanded(key: &[u8]) -> [u8; 240]
     let mut w = [0; 240];
     put(&mut w, 0, key);
     'words: for i in nk..4 * (nk + 7) {
-        let word = next_word(nk, &w[..4 * i], i);
+        let word = next_word::<S>(nk, &w[..4 * i], i);
         put(&mut w, 4 * i, &word);
     }
     w
@@ -193,6 +204,6 @@ pub fn slow_encrypt(key: &[u8], block: [u8; 16]) -> Result<[u8; 16], BadKeyLengt
         return Err(BadKeyLength);
     }
     let rounds = key.len() / 4 + 6;
-    let w = expanded(key);
+    let w = expanded::<BySearch>(key);
     Ok(cipher_with(&w[..16 * (rounds + 1)], rounds, block))
 }

@@ -14,10 +14,10 @@ first_words key w v h l e =
     (rw e (length-put w key 0 (0 + length key) (omega arith) refl ∙ l), rw (f, g, e) (take-put w key 0 (0 + length key) (omega arith) refl))
 
 pub words-init : goal.words-init
-words-init c = first_words c.args.key.now (replicate 240 0) c.put.new.list c.requires (length-replicate {A = ℕ} 240 0) c.put.ensures
+words-init g c = first_words c.args.key.now (replicate 240 0) c.put.new.list c.requires (length-replicate {A = ℕ} 240 0) c.put.ensures
 
 pub words-preserved : goal.words-preserved
-words-preserved c = schedule_more c.args.key.now c.words.w _ c.next_word-word.result c.words.i (length c.args.key.now / 4) c.words.invariant refl (omega arith) (omega arith) c.next_word-word.ensures c.put-in-words.ensures
+words-preserved g c = schedule_more c.args.key.now c.words.w _ c.next_word-word.result c.words.i (length c.args.key.now / 4) c.words.invariant refl (omega arith) (omega arith) c.next_word-word.ensures c.put-in-words.ensures
 
 schedule_begins : (key : List ℕ) (n : ℕ) → take (length key) (schedule key n) ≡ key
 unfolding schedule
@@ -39,7 +39,7 @@ unfolding expanded
 begins_with_key key w n l e = sym (take-take (length key) n w l) ∙ ap (λ (z : List ℕ). take (length key) z) e ∙ schedule_begins key _
 
 pub returns-clause-schedule : goal.returns-clause-schedule
-returns-clause-schedule c = is_expanded c.args.key.now c.words.w c.words.i (omega arith) c.words.invariant.1
+returns-clause-schedule g c = is_expanded c.args.key.now c.words.w c.words.i (omega arith) c.words.invariant.1
 
 pub returns-clause-begins : goal.returns-clause-begins
-returns-clause-begins c = begins_with_key c.args.key.now c.words.w (16 * (length c.args.key.now / 4 + 6 + 1)) (omega arith) (is_expanded c.args.key.now c.words.w c.words.i (omega arith) c.words.invariant.1)
+returns-clause-begins g c = begins_with_key c.args.key.now c.words.w (16 * (length c.args.key.now / 4 + 6 + 1)) (omega arith) (is_expanded c.args.key.now c.words.w c.words.i (omega arith) c.words.invariant.1)

@@ -5,4 +5,4 @@ use Rattle.crypto_model.proofs.slow.next_word.Goals as goal
 
 pub returns : goal.returns
 unfolding next_word
-returns c = listed_all 4 _ _ c.bytes.j c.bytes.invariant.0 c.bytes.invariant.1 (omega arith)
+returns g c = listed_all 4 _ _ c.bytes.j c.bytes.invariant.0 c.bytes.invariant.1 (omega arith)

@@ -1,7 +1,7 @@
 use Rattle.std.proofs.Common.{rules, refl, ◌<◌}
 use Rattle.crypto_model.specs.Field.{sub_byte}
 use Rattle.crypto_model.proofs.Computed.{rotated_is_affine}
-use Rattle.crypto_model.proofs.slow.sub_byte.Goals as goal
+use Rattle.crypto_model.proofs.slow.BySearchSubstitution.sub_byte.Goals as goal
 
 pub returns : goal.returns
 unfolding sub_byte

@@ -1,0 +1,9 @@
+pub mod TableFacts
+pub mod Maps
+pub mod Sums
+pub mod Rows
+pub mod Rounds
+pub mod Keys
+pub mod InverseBytes
+pub mod InverseStates
+pub mod DecryptRounds

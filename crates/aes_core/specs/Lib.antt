@@ -1,0 +1,4 @@
+pub mod Basis
+pub mod InverseTables
+pub mod KeyState
+pub mod Nibbles

@@ -1,0 +1,3 @@
+pub mod XorLists
+pub mod KeyStream
+pub mod Pieces

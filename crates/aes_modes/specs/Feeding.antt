@@ -1,0 +1,28 @@
+-- CTR of a text that comes in pieces.
+use Rattle.std.specs.Prelude.{◌≡◌, ℕ, zero, suc, ◌+◌, ◌*◌, ◌%◌, ◌^◌, ◌≤◌, List, [], ◌++◌, length, drop}
+use Rattle.crypto_model.specs.Aes.{cipher}
+use Rattle.crypto_model.specs.Modes.{ctr, counter_of, counter_block}
+use Rattle.aes_modes.specs.declared.ctr.Ctr.{Ctr}
+
+-- n blocks of key stream from the counter t on
+unfoldable pub key_stream : (List ℕ → List ℕ) → ℕ → ℕ → List ℕ
+key_stream e t zero = []
+key_stream e t (suc n) = e (counter_block t) ++ key_stream e ((t + 1) % 2 ^ 128) n
+
+-- the bytes of the last block's key stream that no text has used
+abbrev pub unused : Ctr → List ℕ
+unused s = drop s.used s.stream
+
+-- the state s, begun with this key and counter block, has taken in this text
+pub record IsFed (key iv : List ℕ) (s : Ctr) (text : List ℕ) : Type 0 where
+  -- how many blocks of key stream were begun
+  pub begun : ℕ
+  pub same_key : s.key.now ≡ key
+  pub counter : s.counter ≡ (counter_of iv + begun) % 2 ^ 128
+  pub within : length text ≤ 16 * begun
+  pub left : unused s ≡ drop (length text) (key_stream (cipher key) (counter_of iv) begun)
+
+-- from any text on, the piece is taken in behind it, and `out` comes out
+abbrev pub Feeds : Ctr → Ctr → List ℕ → List ℕ → Type 0
+Feeds before after piece out = (key iv text : List ℕ) → IsFed key iv before text → IsFed key iv after (text ++ piece)
+    × (ctr (cipher key) iv (text ++ piece) ≡ ctr (cipher key) iv text ++ out)

@@ -1,0 +1,164 @@
+//! CTR (SP 800-38A, 6.5).
+ghost use Rattle.std.specs.Prelude.{◌≡◌, ◌<◌, ◌≤◌, ◌+◌, ◌%◌, ◌^◌, ◌++◌, List, [], ℕ, length};
+ghost use Rattle.crypto_model.specs.Aes.{cipher};
+ghost use Rattle.crypto_model.specs.Modes.{counter_block, ctr};
+
+use crate::xor::{xor_block, xor_bytes, xor_four};
+use aes_core::{Key, encrypt, encrypt_four};
+use std::simd::prelude::*;
+
+/// Key stream of CTR (SP 800-38A, 6.5) from a first counter block on, laid over pieces of any
+/// length.
+#[derive(Drop)]
+pub struct Ctr<'a> {
+    key: &'a Key,
+    // Of the key stream's next block.
+    counter: u128,
+    // The last block that was begun, and how many of its bytes are used.
+    stream: [u8; 16],
+    used: usize,
+    ghost within: { used ≤ 16 },
+}
+
+#[inline(always)]
+fn counter_lanes(counter: u128) -> u8x16
+    ensures { result ≡ counter_block counter }
+{
+    u8x16::from_array(counter.to_be_bytes())
+}
+
+impl<'a> Ctr<'a> {
+    ghost use Rattle.aes_modes.specs.Feeding.{IsFed, Feeds};
+
+    /// From this counter block on.
+    pub fn new(key: &'a Key, counter: [u8; 16]) -> Ctr<'a>
+        ensures { IsFed key.now counter result [] }
+    {
+        Ctr {
+            key,
+            counter: u128::from_be_bytes(counter),
+            stream: [0; 16],
+            used: 16,
+        }
+    }
+
+    /// Encrypts or decrypts a piece in place.
+    pub fn feed(&mut self, piece: &mut [u8])
+        ensures { (key iv text : List ℕ) → IsFed key iv self.old text
+            → IsFed key iv self.new (text ++ piece.old)
+            × (ctr (cipher key) iv (text ++ piece.old) ≡ ctr (cipher key) iv text ++ piece.new) }
+    {
+        let left = piece.len().min(16 - self.used);
+        let (begun, rest) = piece.split_at_mut(left);
+        self.feed_begun(begun);
+        if rest.is_empty() {
+            return;
+        }
+        let whole = rest.len() / 64 * 64;
+        let (groups, rest) = rest.split_at_mut(whole);
+        self.feed_groups(groups);
+        let whole = rest.len() / 16 * 16;
+        let (blocks, last) = rest.split_at_mut(whole);
+        self.feed_blocks(blocks);
+        self.feed_last(last);
+    }
+
+    // At most as many bytes as the last block has left.
+    fn feed_begun(&mut self, piece: &mut [u8])
+        requires { self.old.used + length piece.old ≤ 16 }
+        ensures fed { Feeds self.old self.new piece.old piece.new }
+        ensures used { self.new.used ≡ self.old.used + length piece.old }
+    {
+        xor_bytes(piece, &self.stream[self.used..]);
+        self.used += piece.len();
+    }
+
+    // Groups of four blocks.
+    fn feed_groups(&mut self, piece: &mut [u8])
+        requires used_up { self.old.used ≡ 16 }
+        requires whole { length piece.old % 64 ≡ 0 }
+        ensures fed { Feeds self.old self.new piece.old piece.new }
+        ensures used_up { self.new.used ≡ 16 }
+    {
+        let mut at = 0;
+        while at < piece.len() {
+            self.feed_group(&mut piece[at..at + 64]);
+            at += 64;
+        }
+    }
+
+    #[inline(always)]
+    fn feed_group(&mut self, group: &mut [u8])
+        requires used_up { self.old.used ≡ 16 }
+        requires whole { length group.old ≡ 64 }
+        ensures fed { Feeds self.old self.new group.old group.new }
+        ensures used_up { self.new.used ≡ 16 }
+    {
+        let first = self.counter;
+        let (a, b, c, d) = encrypt_four(
+            self.key,
+            counter_lanes(first),
+            counter_lanes(first.wrapping_add(1)),
+            counter_lanes(first.wrapping_add(2)),
+            counter_lanes(first.wrapping_add(3)),
+        );
+        xor_four(group, a, b, c, d);
+        self.counter = first.wrapping_add(4);
+    }
+
+    // Whole blocks.
+    fn feed_blocks(&mut self, piece: &mut [u8])
+        requires used_up { self.old.used ≡ 16 }
+        requires whole { length piece.old % 16 ≡ 0 }
+        ensures fed { Feeds self.old self.new piece.old piece.new }
+        ensures used_up { self.new.used ≡ 16 }
+    {
+        let mut at = 0;
+        while at < piece.len() {
+            self.feed_block(&mut piece[at..at + 16]);
+            at += 16;
+        }
+    }
+
+    fn feed_block(&mut self, block: &mut [u8])
+        requires used_up { self.old.used ≡ 16 }
+        requires whole { length block.old ≡ 16 }
+        ensures fed { Feeds self.old self.new block.old block.new }
+        ensures used_up { self.new.used ≡ 16 }
+    {
+        let stream = self.next_block();
+        xor_block(block, u8x16::from_array(stream));
+    }
+
+    // The bytes behind the last whole block.
+    fn feed_last(&mut self, piece: &mut [u8])
+        requires used_up { self.old.used ≡ 16 }
+        requires short { length piece.old < 16 }
+        ensures fed { Feeds self.old self.new piece.old piece.new }
+    {
+        if piece.is_empty() {
+            return;
+        }
+        self.begin_block();
+        self.feed_begun(piece);
+    }
+
+    fn begin_block(&mut self)
+        requires { self.old.used ≡ 16 }
+        ensures fed { Feeds self.old self.new [] [] }
+        ensures used { self.new.used ≡ 0 }
+    {
+        self.stream = self.next_block();
+        self.used = 0;
+    }
+
+    fn next_block(&mut self) -> [u8; 16]
+        ensures stream { result ≡ cipher self.old.key.now (counter_block self.old.counter) }
+        ensures step { self.new ≡ record self.old { counter = (self.old.counter + 1) % 2 ^ 128 } }
+    {
+        let mut block = self.counter.to_be_bytes();
+        encrypt(self.key, &mut block);
+        self.counter = self.counter.wrapping_add(1);
+        block
+    }
+}

@@ -1,0 +1,63 @@
+use crate::Ctr;
+use aes_core::Key;
+use crypto_model::{BadKeyLength, slow_encrypt};
+use std::array;
+use std::test::Fail;
+
+const KEY: u128 = 0x2b7e_1516_28ae_d2a6_abf7_1588_09cf_4f3c;
+
+// SP 800-38A, F.5.1.
+#[test]
+fn the_standards_example(rt: HostRuntime) -> Result<(), Fail> {
+    let key = Key::expand(&KEY.to_be_bytes())?;
+    let counter = 0xf0f1_f2f3_f4f5_f6f7_f8f9_fafb_fcfd_feff_u128;
+    let mut block = 0x6bc1_bee2_2e40_9f96_e93d_7e11_7393_172a_u128.to_be_bytes();
+    Ctr::new(&key, counter.to_be_bytes()).feed(&mut block);
+    assert_eq!(rt;
+        u128::from_be_bytes(block),
+        0x874d_6191_b620_e326_1bef_6864_990d_b6ce
+    );
+    Ok(())
+}
+
+#[test]
+fn zero_follows_the_last_counter(rt: HostRuntime) -> Result<(), Fail> {
+    let key = Key::expand(&[0; 16])?;
+    let mut text = [0; 32];
+    Ctr::new(&key, [0xff; 16]).feed(&mut text);
+    let second = 0x66e9_4bd4_ef8a_2c3b_884c_fa59_ca34_2b2e_u128.to_be_bytes();
+    assert_eq!(rt; text[16..], second[..]);
+    Ok(())
+}
+
+// Five blocks before the last counter.
+const COUNTER: u128 = u128::MAX - 4;
+
+fn by_blocks(text: &mut [u8]) -> Result<(), BadKeyLength> {
+    let mut counter = COUNTER;
+    for block in text.chunks_mut(16) {
+        let stream = slow_encrypt(&KEY.to_be_bytes(), counter.to_be_bytes())?;
+        for (byte, key) in block.iter_mut().zip(stream) {
+            *byte ^= key;
+        }
+        counter = counter.wrapping_add(1);
+    }
+    Ok(())
+}
+
+#[test]
+fn pieces_give_what_the_whole_gives(rt: HostRuntime) -> Result<(), Fail> {
+    let key = Key::expand(&KEY.to_be_bytes())?;
+    let text: [u8; 200] = array::from_fn(|i| (i % 251) as u8);
+    let mut whole = text;
+    by_blocks(&mut whole)?;
+    for size in [1, 7, 16, 17, 64, 100, 200] {
+        let mut pieces = text;
+        let mut ctr = Ctr::new(&key, COUNTER.to_be_bytes());
+        for piece in pieces.chunks_mut(size) {
+            ctr.feed(piece);
+        }
+        assert!(rt; pieces == whole, "in pieces of {size}");
+    }
+    Ok(())
+}

@@ -31,6 +31,7 @@ CASES = [
     ("ten-big-nano", "ten-big-nano", KEY, SALT, 10, "status=0"),
     ("key-192", "ten-little-micro", KEY_192, SALT, 10, "status=0"),
     ("key-256", "ten-little-micro", KEY_256, SALT, 10, "status=0"),
+    ("sizes", "sizes", KEY, SALT, 6, "status=0"),
     ("header-only", "header-only", KEY, SALT, 0, "status=0"),
     ("wide", "wide", KEY, SALT, 1, "status=0"),
     ("short-header", "short-header", KEY, SALT, None, "status=3 capture at=0 cause=short_header"),

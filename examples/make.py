@@ -79,6 +79,17 @@ def ten(order, nano):
     return made
 
 
+# Packets that fill no segment of 2,048 bytes, just one, and two, and such as pass an end by a byte.
+SIZES = [0, 1, 2047, 2048, 2049, 4096]
+
+
+def sized():
+    made = head()
+    for n, size in enumerate(SIZES):
+        made += record(1700000000 + n, n, bytes((7 * n + i) % 256 for i in range(size)))
+    return made
+
+
 SIXTY = TEN[5][0]
 GOOD = record(1700000000, 5, SIXTY)
 
@@ -87,6 +98,7 @@ FILES = {
     "ten-little-nano": ten("<", True),
     "ten-big-micro": ten(">", False),
     "ten-big-nano": ten(">", True),
+    "sizes": sized(),
     # The plaintext of the first test vector of RFC 3686.
     "vector": head() + record(1, 0, b"Single block msg"),
     "header-only": head(),

@@ -4,7 +4,7 @@ use Rattle.std.proofs.lemmas.List.{append-nil, take_all, take-append-le, take-ap
 use Rattle.std.proofs.lemmas.List.Concat.{flat_map-append}
 use Rattle.std.proofs.Math.Seq.{take-append-add, take-append_seam}
 use Rattle.std.specs.List.{flat_map}
-use Rattle.crypto_model.specs.declared.thin.spec.Card.{Card}
+use Rattle.crypto_op.specs.declared.spec.Card.{Card}
 use Rattle.sym_engine.specs.declared.plain.PlainDriver.{PlainDriver}
 use Rattle.capture_io.specs.declared.header.Header.{Header}
 use Rattle.capture_io.specs.declared.header.ReadStop.{ReadStop}

@@ -5,10 +5,12 @@ use Rattle.std.proofs.lemmas.List.{get_or-map, length-map, map-append, take_more
 use Rattle.std.proofs.lemmas.List.Sums.{sum_by-cons}
 use Rattle.std.proofs.Math.Seq.{drop-cons}
 use Rattle.crypto_model.specs.Process.{Transform}
-use Rattle.capture_io.specs.Capture.{Rec}
+use Rattle.capture_io.specs.Capture.{Rec, view}
+use Rattle.capture_io.specs.declared.header.Record.{Record}
+use Rattle.sym_engine.proofs.Steps.{front_next}
 use Rattle.capture_io.specs.Pieces.{AppendsPart}
 use Rattle.capcrypt.specs.declared.packet.Packet.{Packet}
-use Rattle.capcrypt.specs.Packet.{Answered, answered, answered_from, read_view, answered_view}
+use Rattle.capcrypt.specs.Packet.{Answered, answered, answered_from, answered_view}
 use Rattle.capcrypt.specs.Written.{answer_bytes}
 use Rattle.capcrypt.specs.Ran.{CutAt}
 
@@ -30,29 +32,19 @@ answered_from-push sessions salt n (x ∷ rs) r =
     ap (λ (list : List Answered). answered sessions salt n x ∷ list)
     (answered_from-push sessions salt (n + 1) rs r ∙ ap (λ (m : ℕ). answered_from sessions salt (n + 1) rs ++ answered sessions salt m r ∷ []) at)
 
--- what the loop has not come to is as it was
-module _ (now all : List Packet) (n : ℕ) (rest : drop n now ≡ drop n all) where
-  pub same_at : (d : Packet) → get_or now n d ≡ get_or all n d
-  same_at d = ap (λ (m : ℕ). get_or now m d) (sym (add-zero n)) ∙ sym (get_or-drop n now 0 d) ∙ ap (λ (l : List Packet). get_or l 0 d) rest
-      ∙ get_or-drop n all 0 d ∙ ap (λ (m : ℕ). get_or all m d) (add-zero n)
-
-  pub rest_more : (p : Packet) → drop (n + 1) (set now n p) ≡ drop (n + 1) all
-  rest_more p = drop-set-lt (n + 1) now n p (omega arith) ∙ sym (drop-drop 1 n now) ∙ ap (drop 1) rest ∙ drop-drop 1 n all
-
-  -- one packet more is answered
-  pub answered_more : (sessions : List (List Transform)) (salt : List ℕ) (first : ℕ) (old new : Packet) → n < length now → length now ≡ length all
-      → old ≡ get_or now n old → answered_view new ≡ answered sessions salt (first + n) (read_view old)
-      → map answered_view (take n now) ≡ answered_from sessions salt first (map read_view (take n all))
-      → map answered_view (take (n + 1) (set now n new)) ≡ answered_from sessions salt first (map read_view (take (n + 1) all))
-  answered_more sessions salt first old new inside same old_is new_is before =
-      let front : take (n + 1) all ≡ take n all ++ old ∷ [] =
-      take_more all n old (omega arith) ∙ ap (λ (p : Packet). take n all ++ p ∷ []) (sym (old_is ∙ same_at old)) in
-      let count : length (map read_view (take n all)) ≡ n = length-map (take n all) read_view ∙ omega (arith, length-take n all) in
-      ap (map answered_view) (take_more_set now n new inside) ∙ map-append answered_view (take n now) (new ∷ [])
-      ∙ ap (λ (list : List Answered). list ++ answered_view new ∷ []) before
-      ∙ ap (λ (a : Answered). answered_from sessions salt first (map read_view (take n all)) ++ a ∷ []) new_is
-      ∙ ap (λ (m : ℕ). answered_from sessions salt first (map read_view (take n all)) ++ answered sessions salt (first + m) (read_view old) ∷ []) (sym count)
-      ∙ sym (ap (answered_from sessions salt first) (ap (map read_view) front ∙ map-append read_view (take n all) (old ∷ [])) ∙ answered_from-push sessions salt first (map read_view (take n all)) (read_view old))
+-- one packet more is answered
+pub answered_more : (sessions : List (List Transform)) (salt : List ℕ) (first n : ℕ) (all more : List Record) (rec : Record) (now : List Packet) (p : Packet)
+    → n < length all → drop n all ≡ rec ∷ more → answered_view p ≡ answered sessions salt (first + n) (view rec)
+    → map answered_view now ≡ answered_from sessions salt first (map view (take n all))
+    → map answered_view (now ++ p ∷ []) ≡ answered_from sessions salt first (map view (take (n + 1) all))
+answered_more sessions salt first n all more rec now p inside here is before =
+    let read = map view (take n all) in
+    let count : length read ≡ n = length-map (take n all) view ∙ omega (arith, length-take n all) in
+    map-append answered_view now (p ∷ []) ∙ ap (λ (list : List Answered). list ++ answered_view p ∷ []) before
+    ∙ ap (λ (a : Answered). answered_from sessions salt first read ++ a ∷ []) is
+    ∙ ap (λ (m : ℕ). answered_from sessions salt first read ++ answered sessions salt (first + m) (view rec) ∷ []) (sym count)
+    ∙ sym (ap (λ (list : List Record). answered_from sessions salt first (map view list)) (front_next all n rec more here)
+    ∙ ap (answered_from sessions salt first) (map-append view (take n all) (rec ∷ [])) ∙ answered_from-push sessions salt first read (view rec))
 
 -- the n-th packet, seen in the list of all
 module _ (all : List Packet) (n : ℕ) (p : Packet) (inside : n < length all) (is : p ≡ get_or all n p) where

@@ -19,6 +19,7 @@ abbrev pub packet_input : List ℕ → ℕ → List ℕ → Input
 packet_input salt n packet = record {
   session = record { 0 = 0 };
   iv = first_counter salt n;
+  aad = [];
   cipher = record { off = 0; len = length packet };
   auth = record { off = 0; len = 0 };
   place = Nowhere;
@@ -45,9 +46,6 @@ unfoldable pub answered_from : List (List Transform) → List ℕ → ℕ → Li
 answered_from sessions salt n [] = []
 answered_from sessions salt n (r ∷ rs) = answered sessions salt n r ∷ answered_from sessions salt (n + 1) rs
 
--- a packet in memory, as it was read and as it was answered
-abbrev pub read_view : Packet → Rec
-read_view p = view p.rec
-
+-- what a packet in memory says
 abbrev pub answered_view : Packet → Answered
 answered_view p = record { rec = view p.rec; status = p.status }

@@ -3,7 +3,7 @@ use Rattle.std.specs.Prelude.{◌≡◌, ◌≤◌, ◌<◌, ◌+◌, ◌⊎◌,
 use Rattle.std.specs.List.{flat_map}
 use Rattle.crypto_model.specs.Counts.{capped}
 use Rattle.crypto_model.specs.Process.{Transform}
-use Rattle.crypto_model.specs.declared.thin.spec.Card.{Card}
+use Rattle.crypto_op.specs.declared.spec.Card.{Card}
 use Rattle.sym_engine.specs.declared.plain.PlainDriver.{PlainDriver}
 use Rattle.sym_engine.specs.Driver.{depth_of, sessions_of, held_of, stats_of}
 use Rattle.capture_io.specs.declared.header.ReadStop.{ReadStop}

@@ -18,7 +18,7 @@ mod writing;
 use anyhow::Result;
 use capture_io::{MemSource, StdSink, StdSource};
 pub use command::{Quick, quick_of};
-use crypto_model::thin::Card;
+use crypto_op::Card;
 pub use ending::{Counts, Ending, Outcome};
 use std::alloc::Global;
 use std::env;

@@ -1,19 +1,23 @@
 //! One packet on its way: from a record to an operation, through a device, and back.
-ghost use Rattle.std.specs.Prelude.{◌≡◌, ◌+◌, ◌<◌, ◌≤◌, ◌^◌, [], length, map, All, OnOk, OnErr};
+ghost use Rattle.std.specs.Prelude.{◌≡◌, ◌++◌, ◌∷◌, ◌+◌, ◌<◌, ◌≤◌, ◌^◌, [], length, map, vec_len, vec_capacity, IfOk, OnOk, OnErr};
+ghost use Rattle.std.specs.VecDeque.{deque_len};
 ghost use Rattle.crypto_model.specs.Counts.{capped};
-ghost use Rattle.crypto_model.specs.Op.{entry_of, present, IsFresh, IsDone};
+ghost use Rattle.mbuf_chain.specs.Chain.{packet_of};
+ghost use Rattle.crypto_op.specs.Op.{entry_of, input_of, present, IsFresh, IsDone};
 ghost use Rattle.sym_engine.specs.Driver.{held_of, depth_of, sessions_of, stats_of};
-ghost use Rattle.capcrypt.specs.Packet.{number_and_one, first_counter, packet_input, answered, answered_from, read_view, answered_view};
+ghost use Rattle.capture_io.specs.Capture.{view};
+ghost use Rattle.capcrypt.specs.Packet.{number_and_one, first_counter, packet_input, answered, answered_from, answered_view};
 
 use capture_io::Record;
-use crypto_model::thin::{Card, Iv, Mbuf, Op, OpBurst, OpSpec};
 use crypto_model::{DigestPlace, OutOfMemory, Range, SessId, Status};
+use crypto_op::{Aad, Card, Iv, Op, OpBurst, OpSpec};
 use dev_core::Driver;
+use mbuf_chain::Mbuf;
 use std::alloc::Global;
-use std::mem::replace;
+use std::collections::VecDeque;
 use sym_engine::PlainDriver;
 
-/// A record of the capture, and how its packet was answered.
+/// A record whose packet was answered, and how.
 #[derive(Drop)]
 pub(crate) struct Packet {
     pub(crate) rec: Record,
@@ -40,14 +44,14 @@ fn first_counter(salt: [u8; 4], n: u32) -> [u8; 16]
     block
 }
 
-fn operation(salt: [u8; 4], n: u32, packet: Mbuf) -> Op<Card>
-    requires { length packet < 2 ^ 32 }
+fn operation(alloc: Global, salt: [u8; 4], n: u32, packet: Mbuf) -> Op<Card>
     ensures fresh { IsFresh result }
-    ensures input { present result ≡ packet_input salt n packet }
+    ensures input { input_of (present result) ≡ packet_input salt n (packet_of packet) }
 {
     let spec = OpSpec {
         session: SessId(0),
         iv: Iv::copy(&first_counter(salt, n)),
+        aad: Aad::empty(alloc),
         cipher: Range {
             off: 0,
             len: packet.len() as u32,
@@ -83,32 +87,46 @@ fn through(dev: &mut PlainDriver<Card>, burst: &mut OpBurst<Card>, op: Op<Card>)
     }
 }
 
-/// Answers packet `n` through a device.
-pub(crate) fn answer(
+// Answers packet `n` through a device.
+fn answer(
     alloc: Global,
     dev: &mut PlainDriver<Card>,
     burst: &mut OpBurst<Card>,
     salt: [u8; 4],
     n: u32,
-    packet: &mut Packet,
-)
-    requires small { length packet.old.rec.packet ≤ 262144 }
+    rec: Record,
+) -> Packet
     requires empty { burst.old ≡ record { cap = 1; ops = [] } }
     requires idle { held_of dev.old ≡ [] }
     requires depth { 0 < depth_of dev.old }
-    ensures answered { answered_view packet.new ≡ answered (sessions_of dev.old) salt n (read_view packet.old) }
-    ensures small { length packet.new.rec.packet ≤ 262144 }
+    ensures answered { answered_view result ≡ answered (sessions_of dev.old) salt n (view rec) }
     ensures empty { burst.new ≡ burst.old }
     ensures idle { held_of dev.new ≡ [] }
     ensures depth { depth_of dev.new ≡ depth_of dev.old }
     ensures sessions { sessions_of dev.new ≡ sessions_of dev.old }
     ensures enqueued { (stats_of dev.new).enqueued ≡ capped ((stats_of dev.old).enqueued + 1) }
 {
-    let bytes = replace(&mut packet.rec.packet, Mbuf::of(Vec::new(alloc)));
-    let op = through(dev, burst, operation(salt, n, bytes));
-    let (_spec, status, bytes, _card) = op.into_parts();
-    packet.rec.packet = bytes;
-    packet.status = status;
+    let op = through(dev, burst, operation(alloc, salt, n, rec.packet));
+    let (_spec, status, packet, _card) = op.into_parts();
+    let rec = Record {
+        sec: rec.sec,
+        frac: rec.frac,
+        orig: rec.orig,
+        packet,
+    };
+    Packet { rec, status }
+}
+
+// Pushes where there is room, which takes no memory.
+fn put(packets: &mut Vec<Packet>, packet: Packet)
+    requires { vec_len packets.old < vec_capacity packets.old }
+    ensures items { packets.new.items ≡ packets.old.items ++ packet ∷ [] }
+    ensures capacity { vec_capacity packets.old ≤ vec_capacity packets.new }
+{
+    match packets.push(packet) {
+        Ok(()) => {}
+        Err(_) => unreachable!(),
+    }
 }
 
 /// Answers packets in their order, the first of them packet `first`, through a device that has
@@ -118,25 +136,30 @@ pub(crate) fn answer_all(
     dev: &mut PlainDriver<Card>,
     salt: [u8; 4],
     first: u32,
-    packets: &mut [Packet],
-) -> Result<(), OutOfMemory>
-    requires small { All (λ p. length p.rec.packet ≤ 262144) packets.old }
-    requires few { first + length packets.old ≤ 2 ^ 32 }
+    records: VecDeque<Record>,
+) -> Result<Vec<Packet>, OutOfMemory>
+    requires few { first + length records.items ≤ 2 ^ 32 }
     requires idle { held_of dev.old ≡ [] }
     requires depth { 0 < depth_of dev.old }
     requires counted { (stats_of dev.old).enqueued ≡ capped first }
-    ensures answered { OnOk result (map answered_view packets.new ≡ answered_from (sessions_of dev.old) salt first (map read_view packets.old)) }
-    ensures small { OnOk result (All (λ p. length p.rec.packet ≤ 262144) packets.new) }
+    ensures answered { IfOk result (λ packets. map answered_view packets.items ≡ answered_from (sessions_of dev.old) salt first (map view records.items)) }
     ensures idle { held_of dev.new ≡ [] }
     ensures depth { depth_of dev.new ≡ depth_of dev.old }
     ensures sessions { sessions_of dev.new ≡ sessions_of dev.old }
-    ensures enqueued { OnOk result ((stats_of dev.new).enqueued ≡ capped (first + length packets.old)) }
+    ensures enqueued { OnOk result ((stats_of dev.new).enqueued ≡ capped (first + length records.items)) }
     ensures unused { OnErr result (dev.new ≡ dev.old) }
 {
+    let mut records = records;
+    let mut packets = Vec::with_capacity(alloc, records.len())?;
     let mut burst = OpBurst::new(alloc, 1)?;
-    for n in 0..packets.len() {
-        let packet = &mut packets[n];
-        answer(alloc, dev, &mut burst, salt, first + n as u32, packet);
+    for n in 0..records.len() {
+        match records.pop_front() {
+            Some(rec) => {
+                let packet = answer(alloc, dev, &mut burst, salt, first + n as u32, rec);
+                put(&mut packets, packet);
+            }
+            None => unreachable!(),
+        }
     }
-    Ok(())
+    Ok(packets)
 }

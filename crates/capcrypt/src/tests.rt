@@ -4,7 +4,7 @@ ghost use Rattle.sym_engine.specs.Driver.{held_of};
 use crate::run;
 use capture_io::{MemSink, MemSource, Sink, WriteFault};
 use crypto_model::OutOfMemory;
-use crypto_model::thin::Card;
+use crypto_op::Card;
 use dev_core::Driver;
 use std::alloc::{AllocError, Global};
 use std::process::Abort;

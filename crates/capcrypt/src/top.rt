@@ -1,27 +1,28 @@
 //! The top call.
 ghost use Rattle.std.specs.Prelude.{◌≡◌, ◌≤◌, ◌<◌, ◌++◌, ◌⊎◌, ◌^◌, true, List, ℕ, [], ◌∷◌, length, map, drop, slice_index_or, All, OnOk, OnErr, string_bytes};
 ghost use Rattle.crypto_model.specs.Counts.{Rose, capped};
-ghost use Rattle.crypto_model.specs.declared.thin.spec.Card.{Card};
+ghost use Rattle.crypto_op.specs.declared.spec.Card.{Card};
 ghost use Rattle.sym_engine.specs.declared.plain.PlainDriver.{PlainDriver};
 ghost use Rattle.sym_engine.specs.Driver.{held_of};
-ghost use Rattle.capture_io.specs.Capture.{Rec, Rest, Records, Reading, IsReading, Holds, first_place, header_bytes};
+ghost use Rattle.capture_io.specs.Capture.{Rec, Rest, Records, Reading, IsReading, Holds, first_place, header_bytes, view};
 ghost use Rattle.capcrypt.specs.Quick.{Begins, asked, start_of};
-ghost use Rattle.capcrypt.specs.Packet.{read_view};
 ghost use Rattle.capcrypt.specs.Written.{raised, counts_of, ending_of};
 ghost use Rattle.capcrypt.specs.Report.{number_of};
 ghost use Rattle.capcrypt.specs.Ran.{HasServed, IsDecided, Job, Ran, ReadsAs, stop_ending};
 
 use crate::command::{Quick, quick_of};
 use crate::ending::{Counts, Ending, Outcome, ending_of_stop, number};
-use crate::packet::{Packet, answer_all};
+use crate::packet::answer_all;
 use crate::reading::read_all;
 use crate::report::write_report;
 use crate::writing::{counts_of, write_records};
-use capture_io::{Header, ReadStop, Sink, Source, read_header, write_header};
+use capture_io::{Header, ReadStop, Record, Sink, Source, read_header, write_header};
 use crypto_model::OutOfMemory;
-use crypto_model::thin::{Card, Session, SessionTable};
+use crypto_model::thin::{Session, SessionTable};
+use crypto_op::Card;
 use dev_core::{Device, Driver, Kind, SetUpRefused};
 use std::alloc::Global;
+use std::collections::VecDeque;
 use std::sync::Arc;
 use sym_engine::PlainDriver;
 
@@ -104,16 +105,15 @@ fn finish<K: Sink>(
     salt: [u8; 4],
     header: &Header,
     stop: ReadStop,
-    packets: &mut [Packet],
+    records: VecDeque<Record>,
     out: &mut K,
     dev: &mut PlainDriver<Card>,
 ) -> Outcome
     requires decided { IsDecided (stop_ending stop) }
-    requires small { All (λ p. length p.rec.packet ≤ 262144) packets.old }
-    requires few { length packets.old < 2 ^ 32 }
+    requires few { length records.items < 2 ^ 32 }
     requires served { (session : _) × HasServed session 0 dev.old }
     ensures job { K.tells → (session : _) (rs : List Rec) (rest : Rest) (old : List ℕ) (before : PlainDriver Card) → HasServed session 0 dev.old
-        → ReadsAs (map read_view packets.old) stop rs rest → K.written out.old ≡ old ++ header_bytes (raised header.now)
+        → ReadsAs (map view records.items) stop rs rest → K.written out.old ≡ old ++ header_bytes (raised header.now)
         → Job (Begins (record { session = session; salt = salt })) (Holds header.now rs rest) result old (K.written out.new) before dev.new }
     ensures header { result.header ≡ true }
     ensures done { result.ending ≡ Ending.Done → stop ≡ ReadStop.End }
@@ -121,9 +121,10 @@ fn finish<K: Sink>(
     ensures later { K.faults out.old ≤ K.faults out.new }
     ensures cause { result.ending ≡ Ending.WriteFault → Rose (K.faults out.old) (K.faults out.new) }
 {
-    let Ok(()) = answer_all(alloc, dev, salt, 0, packets) else {
+    let Ok(answered) = answer_all(alloc, dev, salt, 0, records) else {
         return nothing(Ending::Memory, true);
     };
+    let packets = answered.as_slice();
     let (n, wrote) = write_records(out, header, packets);
     let counts = counts_of(&packets[..n]);
     match wrote {
@@ -155,11 +156,11 @@ fn rewrite<S: Source, K: Sink>(
     if let Err(_fault) = write_header(out, &raise(header)) {
         return nothing(Ending::WriteFault, true);
     }
-    let (mut packets, stop) = read_all(alloc, capture, header);
+    let (records, stop) = read_all(alloc, capture, header);
     match stop {
         ReadStop::Fault => nothing(Ending::ReadFault, true),
         ReadStop::OutOfMemory => nothing(Ending::Memory, true),
-        _ => finish(alloc, salt, header, stop, packets.as_mut_slice(), out, dev),
+        _ => finish(alloc, salt, header, stop, records, out, dev),
     }
 }
 

@@ -1,5 +1,5 @@
 //! The answered records are written.
-ghost use Rattle.std.specs.Prelude.{◌≡◌, ◌≤◌, ◌<◌, ◌^◌, ◌++◌, length, take, map, count_by, All, OnOk, OnErr};
+ghost use Rattle.std.specs.Prelude.{◌≡◌, ◌≤◌, ◌++◌, length, take, map, count_by, OnOk, OnErr};
 ghost use Rattle.std.specs.List.{flat_map};
 ghost use Rattle.crypto_model.specs.Counts.{Rose};
 ghost use Rattle.capcrypt.specs.Packet.{answered_view};
@@ -58,7 +58,6 @@ pub(crate) fn write_records<K: Sink>(
     header: &Header,
     packets: &[Packet],
 ) -> (usize, Result<(), WriteFault>)
-    requires small { All (λ p. length p.rec.packet ≤ 262144) packets.now }
     ensures within { result.0 ≤ length packets.now }
     ensures whole { OnOk result.1 (result.0 ≡ length packets.now) }
     ensures written { K.tells → OnOk result.1 (K.written out.new ≡ K.written out.old ++ flat_map (answer_bytes header.now.big) (map answered_view packets.now)) }

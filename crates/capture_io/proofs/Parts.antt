@@ -1,7 +1,10 @@
 -- Buffers that are filled, and pieces that are written, part by part.
-use Rattle.std.proofs.Common.{◌≡◌, ℕ, ◌+◌, ◌≤◌, List, ◌++◌, length, take, drop, ◌<◌, arith, ◌∙◌, ap, sym, append_assoc, length-take, length-drop, length-append}
+use Rattle.std.proofs.Common.{◌≡◌, ℕ, ◌+◌, ◌≤◌, List, ◌∷◌, ◌++◌, length, take, drop, ◌<◌, arith, refl, ◌∙◌, ap, sym, append_assoc, length-take, length-drop, length-append}
 use Rattle.std.proofs.lemmas.List.{take-append-le, take_all, take-append-drop, drop-drop}
 use Rattle.std.proofs.Math.Seq.{take-add, take-append-add}
+use Rattle.std.proofs.lemmas.Grind.{flat_map-append}
+use Rattle.seg_list.specs.Buffer.{Buffer}
+use Rattle.mbuf_chain.specs.Chain.{packet_of}
 use Rattle.capture_io.specs.Pieces.{AppendsPart}
 use borrow.Rule.Slice.PartMut.{put_mid, post_of}
 
@@ -49,6 +52,10 @@ pub part_of_second : (n : ℕ) (whole a b old mid new : List ℕ) → a ++ b ≡
 part_of_second n whole a b old mid new is first less wrote =
     (length a + n, omega (arith, length-append a b, ap length is), wrote ∙ ap (λ (l : List ℕ). l ++ take n b) first ∙ append_assoc old a (take n b) ∙ ap (λ (l : List ℕ). old ++ l) (sym (take-append-add a b n) ∙ ap (take (length a + n)) is))
 
--- all of a packet, lent as one piece
-pub lent_whole : (len : ℕ) (packet lent : List ℕ) → len ≡ length packet → lent ≡ take len (drop 0 packet) → lent ≡ packet
-lent_whole len packet lent all is = is ∙ take_all len packet (omega arith)
+-- a part of one segment is a part of the packet, behind the segments before it
+pub part_of_packet : (all before rest : List Buffer) (b : Buffer) (piece old mid new : List ℕ) → all ≡ before ++ b ∷ rest → piece ≡ b.body → mid ≡ old ++ packet_of before
+    → AppendsPart mid new piece → AppendsPart old new (packet_of all)
+part_of_packet all before rest b piece old mid new is lent first wrote =
+    let whole : packet_of before ++ (b.body ++ packet_of rest) ≡ packet_of all = sym (flat_map-append (λ (x : Buffer). x.body) before (b ∷ rest)) ∙ ap packet_of (sym is) in
+    let part = part_of_first wrote.0 (b.body ++ packet_of rest) b.body (packet_of rest) mid new refl (rw lent at wrote.1) (rw lent at wrote.2) in
+    part_of_second part.0 (packet_of all) (packet_of before) (b.body ++ packet_of rest) old mid new whole first part.1 part.2

@@ -1,6 +1,7 @@
 -- The classic capture format of libpcap: a header of 24 bytes, and then records.
 use Rattle.std.specs.Prelude.{◌≡◌, ◌<◌, ◌+◌, ◌==◌, ℕ, Bool, true, false, List, [], ◌∷◌, ◌++◌, length, take, drop, Option, Some, None, Result, Ok, Err, nat_lt, if◌then◌else◌}
 use Rattle.byteorder.specs.Endian.{big_number, little_number, big_bytes, little_bytes}
+use Rattle.mbuf_chain.specs.Chain.{packet_of}
 use Rattle.capture_io.specs.declared.header.Header.{Header}
 use Rattle.capture_io.specs.declared.header.Place.{Place}
 use Rattle.capture_io.specs.declared.header.Record.{Record}
@@ -18,7 +19,7 @@ number big n bytes = if big then big_number n bytes else little_number n bytes
 abbrev pub spelled : Bool → ℕ → ℕ → List ℕ
 spelled big n x = if big then big_bytes n x else little_bytes n x
 
--- a record without where its packet lies in memory
+-- a record without how its packet lies in segments
 pub record Rec : Type 0 where
   pub sec : ℕ
   pub frac : ℕ
@@ -27,7 +28,7 @@ pub record Rec : Type 0 where
 
 -- what a record in memory says
 abbrev pub view : Record → Rec
-view r = record { sec = r.sec; frac = r.frac; orig = r.orig; packet = r.packet }
+view r = record { sec = r.sec; frac = r.frac; orig = r.orig; packet = packet_of r.packet }
 
 -- why no record can be read: the capture ends, is not whole from a place on, or holds one that passes a limit
 pub data Rest : Type 0 where

@@ -1,4 +1,5 @@
 pub mod Pieces
 pub mod Memory
 pub mod Standard
+pub mod Filled
 pub mod Capture

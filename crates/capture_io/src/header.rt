@@ -1,5 +1,9 @@
 //! What a capture holds: a header, and records behind it.
-use crypto_model::thin::Mbuf;
+ghost use Rattle.std.specs.Prelude.{◌≡◌};
+
+use crate::outside::ReadFault;
+use crypto_model::OutOfMemory;
+use mbuf_chain::Mbuf;
 
 /// What the first 24 bytes of a capture say.
 #[derive(Clone, Copy, Debug, PartialEq, Eq)]
@@ -67,4 +71,24 @@ pub enum ReadStop {
     /// records there are with it.
     TooLarge(u64),
     OutOfMemory,
+}
+
+impl From<ReadFault> for ReadStop {
+    ghost use Rattle.capture_io.specs.declared.header.ReadStop.TheVariants.{Fault};
+
+    ghost from_gives = { λ _ e. e ≡ Fault };
+
+    fn from(_fault: ReadFault) -> ReadStop {
+        ReadStop::Fault
+    }
+}
+
+impl From<OutOfMemory> for ReadStop {
+    ghost use Rattle.capture_io.specs.declared.header.ReadStop.TheVariants.{OutOfMemory};
+
+    ghost from_gives = { λ _ e. e ≡ OutOfMemory };
+
+    fn from(_error: OutOfMemory) -> ReadStop {
+        ReadStop::OutOfMemory
+    }
 }

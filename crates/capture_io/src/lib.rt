@@ -29,6 +29,8 @@
 //!   list of bytes has exactly one reading, by the law `one_reading`;
 //! - `header_bytes` and `record_bytes`: how they are written.
 //!
+//! A packet that was read lies in segments of a store, as `filled_shape` of `specs/Filled` says.
+//!
 //! A `Source` or a `Sink` whose bytes contracts can know `tells` them; and `Rose` says that a count of
 //! faults rose, or stands at its last value.
 #![tactic(auto)]
@@ -37,6 +39,7 @@ mod header;
 mod laws;
 mod memory;
 mod outside;
+mod packet;
 mod pieces;
 mod reading;
 mod standard;

@@ -1,38 +1,21 @@
 //! A capture is read from a source, its header first, and then record by record.
 ghost use Rattle.std.specs.Prelude.{◌≡◌, ◌≤◌, ◌<◌, ◌+◌, ◌*◌, ◌^◌, ◌++◌, ℕ, List, [], length, take, drop, Ok, Err, IfOk, IfErr, OnErr, IsErrOf};
 ghost use Rattle.crypto_model.specs.Counts.{Rose};
-ghost use Rattle.capture_io.specs.Capture.{number, magic_of, header_of, header_at, head_of, limit_of, record_at, view, behind, StopsHeader, CanStopHeader, IsHeaderFault, StopsRecord, CanStopRecord, StopsPacket, CanStopPacket};
+ghost use Rattle.capture_io.specs.Capture.{number, magic_of, header_of, header_at, head_of, limit_of, record_at, view, behind, StopsHeader, CanStopHeader, IsHeaderFault, StopsRecord, CanStopRecord};
+ghost use Rattle.mbuf_chain.specs.Chain.{packet_of, shape_of};
+ghost use Rattle.capture_io.specs.Filled.{filled_shape};
 
 use crate::header::{CaptureCause, Header, Place, ReadStop, Record, RecordHead};
-use crate::outside::{ReadFault, Source};
+use crate::outside::Source;
+use crate::packet::read_packet;
 use crate::pieces::fill;
 use byteorder::{BigEndian, ByteOrder, LittleEndian};
-use crypto_model::thin::Mbuf;
-use std::alloc::{AllocError, Global};
+use mbuf_chain::SegStore;
+use std::alloc::Global;
 
 const MAX_CAPTURED: u32 = 262_144;
 
 const MAX_ORIGINAL: u32 = u32::MAX - 64;
-
-impl From<ReadFault> for ReadStop {
-    ghost use Rattle.capture_io.specs.declared.header.ReadStop.TheVariants.{Fault};
-
-    ghost from_gives = { λ _ e. e ≡ Fault };
-
-    fn from(_fault: ReadFault) -> ReadStop {
-        ReadStop::Fault
-    }
-}
-
-impl From<AllocError> for ReadStop {
-    ghost use Rattle.capture_io.specs.declared.header.ReadStop.TheVariants.{OutOfMemory};
-
-    ghost from_gives = { λ _ e. e ≡ OutOfMemory };
-
-    fn from(_error: AllocError) -> ReadStop {
-        ReadStop::OutOfMemory
-    }
-}
 
 fn u16_at(big: bool, bytes: &[u8], at: usize) -> u16
     requires { at + 2 ≤ length bytes.now }
@@ -145,38 +128,20 @@ fn passed_limit(records: u32, head: &RecordHead) -> Option<u64>
     }
 }
 
-// Reads a packet of this length, of the record at this place.
-fn read_packet<S: Source>(alloc: Global, src: &mut S, len: u32, at: u64) -> Result<Mbuf, ReadStop>
-    ensures found { S.tells → IfOk result (λ packet. S.left src.old ≡ packet ++ S.left src.new) }
-    ensures length { IfOk result (λ packet. length packet ≡ len) }
-    ensures stop { S.tells → IfErr result (StopsPacket len at (S.left src.old)) }
-    ensures taken { S.tells → ((bytes : List ℕ) × (S.left src.old ≡ bytes ++ S.left src.new)) }
-    ensures never { IfErr result (CanStopPacket at) }
-    ensures later { S.faults src.old ≤ S.faults src.new }
-    ensures cause { IsErrOf result ReadStop.Fault → Rose (S.faults src.old) (S.faults src.new) }
-{
-    let mut packet = vec![in alloc; 0; len as usize]?;
-    let n = fill(src, packet.as_mut_slice())?;
-    if n < packet.len() {
-        return Err(ReadStop::BadCapture {
-            at,
-            cause: CaptureCause::ShortData,
-        });
-    }
-    Ok(Mbuf::of(packet))
-}
-
 /// Reads a record. The place is where it begins, and moves behind it.
 ///
 /// A record that is too large stops the reading behind its first 16 bytes, and one that memory is
-/// wanting for also: neither can be passed over.
-pub fn read_record<S: Source>(
+/// wanting for also: neither can be passed over. The packet's segments are taken from `store`, and on a
+/// stop all that were taken are given back to it.
+pub fn read_record<S: Source, P: SegStore>(
     alloc: Global,
     src: &mut S,
     header: &Header,
     place: &mut Place,
+    store: &mut P,
 ) -> Result<Record, ReadStop>
-    requires { place.old.at ≤ 24 + 262160 * place.old.records }
+    requires endless { P.endless }
+    requires at { place.old.at ≤ 24 + 262160 * place.old.records }
     ensures found { S.tells → IfOk result (λ r. record_at header.now.big place.old (S.left src.old) ≡ Ok (view r, S.left src.new)) }
     ensures stop { S.tells → IfErr result (StopsRecord header.now.big place.old (S.left src.old)) }
     ensures taken { S.tells → ((bytes : List ℕ) × (S.left src.old ≡ bytes ++ S.left src.new)) }
@@ -184,7 +149,8 @@ pub fn read_record<S: Source>(
     // Also where the bytes are not told.
     ensures never { IfErr result (CanStopRecord place.old.at) }
     ensures moved { IfOk result (λ r. place.new ≡ behind place.old (view r)) }
-    ensures small { IfOk result (λ r. length r.packet ≤ 262144) }
+    ensures small { IfOk result (λ r. length (packet_of r.packet) ≤ 262144) }
+    ensures filled { IfOk result (λ r. shape_of r.packet ≡ filled_shape (length (packet_of r.packet))) }
     ensures range { place.new.records < 2 ^ 32 }
     ensures more { IfOk result (λ r. place.new.records ≡ place.old.records + 1) }
     ensures stays { OnErr result (place.new ≡ place.old) }
@@ -208,7 +174,7 @@ pub fn read_record<S: Source>(
     if let Some(value) = passed_limit(place.records, &head) {
         return Err(ReadStop::TooLarge(value));
     }
-    let packet = read_packet(alloc, src, head.captured, at)?;
+    let packet = read_packet(alloc, src, store, head.captured, at)?;
     place.at = at + 16 + u64::from(head.captured);
     place.records += 1;
     Ok(Record {

@@ -3,6 +3,8 @@ use crate::{
     StdSink, StdSource, WriteFault, fill, one_reading, read_header, read_record, write_all,
     write_header, write_record,
 };
+use mbuf_chain::{FreshSegs, NoSeg, SegStore};
+use seg_list::Seg;
 use std::alloc::Global;
 use std::io;
 use std::io::{Read, Write};
@@ -63,12 +65,13 @@ fn a_capture_is_read_and_written_again(rt: HostRuntime) -> Result<(), Fail> {
         };
         assert_eq!(rt; header, expected);
         let mut place = Place { at: 24, records: 0 };
-        let record = read_record(alloc, &mut source, &header, &mut place)?;
+        let mut store = FreshSegs::new(alloc);
+        let record = read_record(alloc, &mut source, &header, &mut place, &mut store)?;
         assert_eq!(rt; (record.sec, record.frac, record.orig), (5, 6, 9));
-        assert_eq!(rt; record.packet.len(), 2);
+        assert!(rt; record.packet.len() == 2);
         assert_eq!(rt; record.packet.piece(0, 2), b"pq".as_slice());
         assert_eq!(rt; place, Place { at: 42, records: 1 });
-        let end = read_record(alloc, &mut source, &header, &mut place);
+        let end = read_record(alloc, &mut source, &header, &mut place, &mut store);
         assert!(rt; matches!(end, Err(ReadStop::End)));
 
         let mut sink = MemSink::new(alloc, 42, Vec::new(alloc))?;
@@ -82,8 +85,9 @@ fn a_capture_is_read_and_written_again(rt: HostRuntime) -> Result<(), Fail> {
 fn read_two(alloc: Global, source: &mut MemSource) -> Result<Place, ReadStop> {
     let header = read_header(source)?;
     let mut place = Place { at: 24, records: 0 };
-    read_record(alloc, source, &header, &mut place)?;
-    read_record(alloc, source, &header, &mut place)?;
+    let mut store = FreshSegs::new(alloc);
+    read_record(alloc, source, &header, &mut place, &mut store)?;
+    read_record(alloc, source, &header, &mut place, &mut store)?;
     Ok(place)
 }
 
@@ -130,6 +134,117 @@ fn captures_are_refused(rt: HostRuntime) -> Result<(), Fail> {
         let mut source = MemSource::new(bytes, 7, Vec::new(alloc));
         let read = read_two(alloc, &mut source);
         assert_eq!(rt; read, Err(stop), "{len} bytes with {four:?} at {at}");
+    }
+    Ok(())
+}
+
+// A record that tells this captured length, behind which so many bytes stand.
+fn record_bytes(alloc: Global, captured: u32, present: u32) -> Result<Vec<u8>, Fail> {
+    let mut bytes = Vec::from_slice(alloc, &[0, 0, 0, 5, 0, 0, 0, 6])?;
+    bytes.extend_from_slice(&captured.to_be_bytes())?;
+    bytes.extend_from_slice(&[0, 0, 0xff, 0xff])?;
+    for i in 0..present {
+        bytes.push((i % 251) as u8)?;
+    }
+    Ok(bytes)
+}
+
+const HEADER: Header = Header {
+    big: true,
+    nanos: false,
+    zone: 0,
+    sigfigs: 0,
+    snaplen: 65_535,
+    link: 1,
+};
+
+#[test]
+fn all_segments_but_the_last_are_full(rt: HostRuntime) -> Result<(), Fail> {
+    let alloc = rt.alloc();
+    for (len, segs) in [(0, 1), (1, 1), (2047, 1), (2048, 1), (2049, 2), (4096, 2)] {
+        let bytes = record_bytes(alloc, len, len)?;
+        let mut source = MemSource::new(Vec::from_slice(alloc, &bytes)?, 700, Vec::new(alloc));
+        let mut place = Place { at: 24, records: 0 };
+        let mut store = FreshSegs::new(alloc);
+        let record = read_record(alloc, &mut source, &HEADER, &mut place, &mut store)?;
+        assert_eq!(rt; record.packet.seg_count(), segs, "{len} bytes");
+        let mut sink = MemSink::new(alloc, 5000, Vec::new(alloc))?;
+        write_record(&mut sink, &HEADER, &record)?;
+        assert_eq!(rt; sink.bytes(), bytes.as_slice(), "{len} bytes");
+    }
+    Ok(())
+}
+
+#[test]
+fn a_packet_of_262_208_bytes_has_129_segments(rt: HostRuntime) -> Result<(), Fail> {
+    let alloc = rt.alloc();
+    let bytes = record_bytes(alloc, 262_144, 262_144)?;
+    let mut source = MemSource::new(bytes, 65_536, Vec::new(alloc));
+    let mut place = Place { at: 24, records: 0 };
+    let mut store = FreshSegs::new(alloc);
+    let mut packet = read_record(alloc, &mut source, &HEADER, &mut place, &mut store)?.packet;
+    assert_eq!(rt; (packet.len(), packet.seg_count()), (262_144, 128));
+    let mut seg = Seg::new(alloc, 0)?;
+    seg.set(0, 64);
+    packet.add_seg(seg).ok().ok_or("not added")?;
+    assert_eq!(rt; (packet.len(), packet.seg_count()), (262_208, 129));
+    Ok(())
+}
+
+// Gives so many segments, and counts those given and taken back.
+#[derive(Drop)]
+struct CountedSegs {
+    segs: FreshSegs,
+    room: u32,
+    given: u32,
+    back: u32,
+}
+
+impl SegStore for CountedSegs {
+    ghost endless = { Unit {0} };
+
+    fn take(&mut self) -> Result<Seg, NoSeg> {
+        if self.given == self.room {
+            return Err(NoSeg::OutOfMemory);
+        }
+        self.given = self.given.saturating_add(1);
+        self.segs.take()
+    }
+
+    fn give(&mut self, seg: Seg) {
+        self.back = self.back.saturating_add(1);
+        self.segs.give(seg);
+    }
+}
+
+// Each case is a record of a captured length and the bytes behind it, a read of the source that fails,
+// how many segments there are, and how many were taken and came back.
+#[test]
+fn segments_come_back_at_a_stop(rt: HostRuntime) -> Result<(), Fail> {
+    let alloc = rt.alloc();
+    for (captured, present, fail, room, stop, segs) in [
+        (6000, 5000, 9, 9, bad(24, CaptureCause::ShortData), 3),
+        (6000, 2048, 9, 9, bad(24, CaptureCause::ShortData), 2),
+        (6000, 6000, 3, 9, ReadStop::Fault, 3),
+        (6000, 6000, 9, 2, ReadStop::OutOfMemory, 2),
+        (262_145, 6000, 9, 9, ReadStop::TooLarge(262_145), 0),
+    ] {
+        let bytes = record_bytes(alloc, captured, present)?;
+        let mut source = MemSource::new(bytes, 2048, Vec::from_slice(alloc, &[fail])?);
+        let mut place = Place { at: 24, records: 0 };
+        let mut store = CountedSegs {
+            segs: FreshSegs::new(alloc),
+            room,
+            given: 0,
+            back: 0,
+        };
+        let read = read_record(alloc, &mut source, &HEADER, &mut place, &mut store).err();
+        assert_eq!(rt; read, Some(stop), "{present} of {captured} bytes");
+        assert_eq!(rt;
+            (store.given, store.back),
+            (segs, segs),
+            "{present} of {captured} bytes"
+        );
     }
     Ok(())
 }
@@ -217,7 +332,8 @@ fn faults_of_std_are_told(rt: HostRuntime) -> Result<(), Fail> {
     });
     let header = read_header(&mut source)?;
     let mut place = Place { at: 24, records: 0 };
-    let read = read_record(alloc, &mut source, &header, &mut place).err();
+    let mut store = FreshSegs::new(alloc);
+    let read = read_record(alloc, &mut source, &header, &mut place, &mut store).err();
     assert_eq!(rt; read, Some(ReadStop::Fault));
     assert_eq!(rt; fill(&mut source, &mut buf), Ok(8));
 

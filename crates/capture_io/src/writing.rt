@@ -1,12 +1,14 @@
 //! A capture is written to a sink.
-ghost use Rattle.std.specs.Prelude.{◌≡◌, ◌≤◌, ◌<◌, ◌++◌, ◌^◌, length, OnOk, OnErr};
+ghost use Rattle.std.specs.Prelude.{◌≡◌, ◌≤◌, ◌++◌, OnOk, OnErr};
 ghost use Rattle.crypto_model.specs.Counts.{Rose};
 ghost use Rattle.capture_io.specs.Capture.{spelled, magic_number, header_bytes, record_bytes, view};
 ghost use Rattle.capture_io.specs.Pieces.{AppendsPart};
+ghost use Rattle.mbuf_chain.specs.Chain.{packet_of};
 
 use crate::header::{Header, Record};
 use crate::outside::{Sink, WriteFault};
 use crate::pieces::write_all;
+use seg_list::SegList;
 
 fn u16_bytes(big: bool, number: u16) -> [u8; 2]
     ensures { result ≡ spelled big 2 number }
@@ -68,8 +70,7 @@ fn spelled_header(header: &Header) -> [u8; 24]
 }
 
 fn spelled_head(big: bool, rec: &Record) -> [u8; 16]
-    requires { length rec.now.packet < 2 ^ 32 }
-    ensures { result ++ rec.now.packet ≡ record_bytes big (view rec.now) }
+    ensures { result ++ packet_of rec.now.packet ≡ record_bytes big (view rec.now) }
 {
     spelled_words(big, rec.sec, rec.frac, rec.packet.len() as u32, rec.orig)
 }
@@ -84,18 +85,25 @@ pub fn write_header<K: Sink>(sink: &mut K, header: &Header) -> Result<(), WriteF
     write_all(sink, &spelled_header(header))
 }
 
+fn write_segs<K: Sink>(sink: &mut K, segs: &SegList) -> Result<(), WriteFault>
+    ensures written { K.tells → OnOk result (K.written sink.new ≡ K.written sink.old ++ packet_of segs.now) }
+    ensures fault { K.tells → OnErr result (AppendsPart (K.written sink.old) (K.written sink.new) (packet_of segs.now)) }
+    ensures later { K.faults sink.old ≤ K.faults sink.new }
+    ensures cause { OnErr result (Rose (K.faults sink.old) (K.faults sink.new)) }
+{
+    for seg in segs.iter() {
+        write_all(sink, seg.data())?;
+    }
+    Ok(())
+}
+
 /// Writes a record. At a fault a front of its bytes was written.
 pub fn write_record<K: Sink>(sink: &mut K, header: &Header, rec: &Record) -> Result<(), WriteFault>
-    requires { length rec.now.packet < 2 ^ 32 }
     ensures written { K.tells → OnOk result (K.written sink.new ≡ K.written sink.old ++ record_bytes header.now.big (view rec.now)) }
     ensures fault { K.tells → OnErr result (AppendsPart (K.written sink.old) (K.written sink.new) (record_bytes header.now.big (view rec.now))) }
     ensures later { K.faults sink.old ≤ K.faults sink.new }
     ensures cause { OnErr result (Rose (K.faults sink.old) (K.faults sink.new)) }
 {
     write_all(sink, &spelled_head(header.big, rec))?;
-    let len = rec.packet.len();
-    if len == 0 {
-        return Ok(());
-    }
-    write_all(sink, rec.packet.piece(0, len))
+    write_segs(sink, rec.packet.segs())
 }

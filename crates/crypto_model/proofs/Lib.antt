@@ -2,6 +2,5 @@ pub mod FieldSteps
 pub mod Computed
 pub mod Listed
 pub mod Schedule
-pub mod Moved
 pub mod Laid
 pub mod Vectors

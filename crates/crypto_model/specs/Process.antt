@@ -25,6 +25,7 @@ ctr_session key = Cipher AesCtr Encrypt key ∷ []
 pub record Input : Type 0 where
   pub session : SessId
   pub iv : List ℕ
+  pub aad : List ℕ
   pub cipher : Range
   pub auth : Range
   pub place : DigestPlace

@@ -1,5 +1,5 @@
-use crate::thin::{Card, Iv, Mbuf, Op, OpBurst, OpSpec, Session, SessionTable};
-use crate::{DigestPlace, Range, SessId, Status, slow_encrypt};
+use crate::thin::{Session, SessionTable};
+use crate::{SessId, slow_encrypt};
 use std::test::Fail;
 
 const KEY: [u8; 32] = [
@@ -26,39 +26,6 @@ fn slow_encrypt_gives_the_examples_of_the_standard(rt: HostRuntime) -> Result<()
         );
     }
     assert!(rt; slow_encrypt(&KEY[..17], PLAIN.to_be_bytes()).is_err());
-    Ok(())
-}
-
-#[test]
-fn an_operation_goes_through_a_burst(rt: HostRuntime) -> Result<(), Fail> {
-    let alloc = rt.alloc();
-    let spec = OpSpec {
-        session: SessId(0),
-        iv: Iv::copy(&KEY[..16]),
-        cipher: Range { off: 1, len: 2 },
-        auth: Range { off: 0, len: 0 },
-        place: DigestPlace::Nowhere,
-        digest: [0; 64],
-        pos: 5,
-    };
-    let mut op = Op::new(
-        spec,
-        Mbuf::of(Vec::from_slice(alloc, b"abc")?),
-        Card { packet: 5, flow: 0 },
-    );
-    assert_eq!(rt; op.data_len(), 2);
-    if op.chain().len() == 3 {
-        op.chain_mut().write_at(1, b"x");
-    }
-    op.set_status(Status::Success);
-    let mut burst = OpBurst::new(alloc, 1)?;
-    burst.push(op);
-    burst.set_pos(0, 7);
-    let op = burst.pop().ok_or("no operation")?;
-    let (spec, status, chain, card) = op.into_parts();
-    assert_eq!(rt; (spec.pos, status, card.packet), (7, Status::Success, 5));
-    assert!(rt; chain.len() == 3);
-    assert_eq!(rt; chain.piece(0, 3), b"axc".as_slice());
     Ok(())
 }
 

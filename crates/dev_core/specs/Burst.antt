@@ -1,8 +1,8 @@
 -- What the burst calls of a driver move.
 use Rattle.std.specs.Prelude.{ℕ, ◌-◌, min, List, ◌++◌, length, map, take, drop}
-use Rattle.crypto_model.specs.declared.thin.op.Op.{Op}
-use Rattle.crypto_model.specs.Op.{Entry, entry_of, data_len_of}
-use Rattle.crypto_model.specs.Burst.{Burst}
+use Rattle.crypto_op.specs.declared.op.Op.{Op}
+use Rattle.crypto_op.specs.Op.{Entry, entry_of, data_len_of}
+use Rattle.crypto_op.specs.Burst.{Burst}
 use Rattle.dev_core.specs.declared.driver.LogEntry.{LogEntry}
 
 -- how many operations a call is offered

@@ -6,7 +6,8 @@ ghost use Rattle.std.specs.Arc.{arc_value};
 
 use crate::Stats;
 use crypto_model::SessId;
-use crypto_model::thin::{OpBurst, SessionTable};
+use crypto_model::thin::SessionTable;
+use crypto_op::OpBurst;
 use std::alloc::{AllocError, Global};
 use std::sync::Arc;
 use thiserror::Error;
@@ -51,7 +52,7 @@ impl From<AllocError> for SetUpRefused {
 pub trait Driver<C> {
     ghost use Rattle.crypto_model.specs.Counts.{capped, Rose};
     ghost use Rattle.crypto_model.specs.Process.{Transform};
-    ghost use Rattle.crypto_model.specs.Op.{Entry, IsFresh, IsDone, entry_of};
+    ghost use Rattle.crypto_op.specs.Op.{Entry, IsFresh, IsDone, entry_of};
     ghost use Rattle.dev_core.specs.declared.driver.LogEntry.{LogEntry};
     ghost use Rattle.dev_core.specs.declared.stats.Stats.{Stats};
     ghost use Rattle.dev_core.specs.Burst.{offered, lens, room_of, rest_of, front, front_log, added, with_ops};

@@ -1,9 +1,9 @@
 //! Queue pairs: what a driver promises, and what a device promises beside it.
 //!
 //! A contract sees of a driver `held`, the entries of the operations that it has accepted and not
-//! returned, where an entry is the input that an operation was made with, its pos and its cargo. An
+//! returned, where an entry is the request that an operation was made with, its pos and its cargo. An
 //! enqueue moves the first operations of a burst inside, and a dequeue hands some out, each `IsDone`:
-//! with the answer to its made input under the driver's `sessions`. A driver that moves fewer than it
+//! with the answer to its made request under the driver's `sessions`. A driver that moves fewer than it
 //! could has its count of `stalls` rise, and for no other cause may it move fewer.
 #![tactic(auto)]
 

@@ -52,6 +52,21 @@ impl Mbuf {
         }
     }
 
+    /// A packet of all these segments.
+    pub fn from_segs(segs: SegList) -> Mbuf
+        requires { 0 < length segs }
+        ensures { result ≡ segs }
+    {
+        Mbuf { segs }
+    }
+
+    pub fn into_segs(self) -> SegList
+        ensures { result ≡ self }
+    {
+        let Mbuf { segs } = self;
+        segs
+    }
+
     pub fn segs(&self) -> &SegList
         ensures { result.now ≡ self.now }
     {

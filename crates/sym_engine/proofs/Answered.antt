@@ -2,11 +2,15 @@
 use Rattle.std.proofs.Common.{◌≡◌, ◌≢◌, ℕ, ◌+◌, Bool, true, false, cond, ◌&&◌, nat_eq, nat_le, List, [], ◌∷◌, length, Option, None, Some, slice_get, refl, ap, sym, ◌∙◌, arith}
 use Rattle.std.proofs.lemmas.Bool.Decides.{nat_tests}
 use Rattle.std.specs.List.{list_all}
+use Rattle.crypto_model.specs.declared.plain.Status.{Status}
 use Rattle.crypto_model.specs.declared.plain.Status.TheVariants.{InvalidSession, InvalidArgs}
 use Rattle.crypto_model.specs.Process.{Transform, Cipher, Input, Answer, transform_fits, ctr_session, refused, bytes_in, crypted, worked, all_worked, answer_of, answer_in, processed}
 use Rattle.crypto_model.proofs.Laid.{length-laid_at}
-use Rattle.crypto_model.specs.Op.{present, made, with_chain, with_answer, IsFresh, IsDone}
-use Rattle.crypto_model.specs.declared.thin.op.Op.{Op}
+use Rattle.seg_list.specs.Buffer.{Buffer}
+use Rattle.mbuf_chain.specs.Chain.{packet_of, with_packet, shape_of}
+use Rattle.mbuf_chain.proofs.Chains.{shape_of-with_packet, with_packet-own}
+use Rattle.crypto_op.specs.Op.{Request, input_of, present, made, with_chain, answered, IsFresh, IsDone}
+use Rattle.crypto_op.specs.declared.op.Op.{Op}
 
 second_fails : (a b c : Bool) → b ≡ false → a && (b && c) ≡ false
 second_fails true b c is = ap (λ (x : Bool). x && c) is
@@ -43,18 +47,22 @@ processed-digest sessions input = in_session (slice_get sessions input.session.0
     in_session None = refl
     in_session (Some session) = of_cond (list_all (transform_fits input) session) _ refl
 
--- an operation with an answer to its present input, which is its made one
-pub done_by : {C : Type 0} (sessions : List (List Transform)) (old new : Op C) (a : Answer) → IsFresh old → a ≡ processed sessions (present old)
-    → new ≡ record (with_chain old a.packet) { status = a.status } → IsDone sessions new
+-- an operation with an answer to its present request, which is its made one
+pub done_by : {C : Type 0} (sessions : List (List Transform)) (old new : Op C) (a : Answer) → IsFresh old → a ≡ processed sessions (input_of (present old))
+    → new ≡ record (with_chain old (with_packet old.chain a.packet)) { status = a.status } → IsDone sessions new
 done_by {C = C} sessions old new a fresh is new_is =
-    let same : made new ≡ present old = ap made new_is ∙ sym fresh.input in
-    let answer : processed sessions (made new) ≡ a = ap (processed sessions) same ∙ sym is in
-    let kept : a.digest ≡ old.spec.digest = ap (λ (x : Answer). x.digest) is ∙ processed-digest sessions (present old) in
+    let same : made new ≡ present old = ap made new_is ∙ sym fresh.request in
+    let answer : processed sessions (input_of (made new)) ≡ a = ap (λ (r : Request). processed sessions (input_of r)) same ∙ sym is in
+    let kept : a.digest ≡ old.spec.digest = ap (λ (x : Answer). x.digest) is ∙ processed-digest sessions (input_of (present old)) in
     record {
       status = ap (λ (op : Op C). op.status) new_is ∙ sym (ap (λ (x : Answer). x.status) answer);
-      present = ap present new_is ∙ ap (λ (d : List ℕ). record (present old) { digest = d; packet = a.packet }) (sym kept)
-          ∙ sym (ap (λ (x : Answer). with_answer x (made new)) answer ∙ ap (with_answer a) same);
+      present = ap present new_is ∙ ap (λ (d : List ℕ). record { spec = record (present old).spec { digest = d }; chain = with_packet old.chain a.packet }) (sym kept)
+          ∙ sym (ap (λ (x : Answer). answered x (made new)) answer ∙ ap (answered a) same);
     }
+
+-- a refusal leaves the packet as it was
+pub unchanged : {C : Type 0} (op : Op C) (a : Answer) (status : Status) → a ≡ refused status (input_of (present op)) → op ≡ with_chain op (with_packet op.chain a.packet)
+unchanged op a status is = sym (ap (λ (x : Answer). with_chain op (with_packet op.chain x.packet)) is ∙ ap (with_chain op) (with_packet-own op.chain))
 
 pub unknown : (sessions : List (List Transform)) (input : Input) → slice_get sessions input.session.0 ≡ None → processed sessions input ≡ refused InvalidSession input
 unfolding processed
@@ -82,3 +90,7 @@ length-processed sessions input = in_session (slice_get sessions input.session.0
     in_session : (o : Option (List Transform)) → length ((answer_in o input).packet) ≡ length input.packet
     in_session None = refl
     in_session (Some session) = of_cond (list_all (transform_fits input) session) _ (length-all_worked session input input.packet)
+
+-- and its shape
+pub shape-processed : (sessions : List (List Transform)) (r : Request) → shape_of (with_packet r.chain (processed sessions (input_of r)).packet) ≡ shape_of r.chain
+shape-processed sessions r = shape_of-with_packet r.chain (processed sessions (input_of r)).packet (length-processed sessions (input_of r))

@@ -2,7 +2,7 @@
 use Rattle.std.specs.Prelude.{◌≡◌, ℕ, List, [], map}
 use Rattle.std.specs.Arc.{arc_value}
 use Rattle.crypto_model.specs.Process.{Transform}
-use Rattle.crypto_model.specs.Op.{Entry, entry_of}
+use Rattle.crypto_op.specs.Op.{Entry, entry_of}
 use Rattle.dev_core.specs.declared.stats.Stats.{Stats}
 use Rattle.dev_core.specs.Stats.{no_stats}
 use Rattle.sym_engine.specs.declared.plain.PlainDriver.{PlainDriver}

@@ -2,11 +2,12 @@
 ghost use Rattle.std.specs.Prelude.{◌≡◌, ◌+◌, ◌<◌, ◌≤◌, [], ◌∷◌, ◌++◌, length, map, take, drop};
 ghost use Rattle.std.specs.List.{All};
 ghost use Rattle.std.specs.VecDeque.{deque_len, deque_capacity};
-ghost use Rattle.crypto_model.specs.Op.{IsFresh, IsDone, entry_of};
+ghost use Rattle.crypto_op.specs.Op.{IsFresh, IsDone, entry_of};
 ghost use Rattle.dev_core.specs.Burst.{room_of, rest_of, added, with_ops};
 
 use crate::process;
-use crypto_model::thin::{Op, OpBurst, SessionTable};
+use crypto_model::thin::SessionTable;
+use crypto_op::{Op, OpBurst};
 use std::collections::VecDeque;
 
 // Pushes where there is room, which takes no memory.

@@ -5,11 +5,12 @@ ghost use Rattle.std.proofs.Common.{refl, ◌∙◌};
 ghost use Rattle.std.proofs.lemmas.List.{length-map};
 ghost use Rattle.std.specs.VecDeque.{deque_len, deque_capacity};
 ghost use Rattle.std.specs.Arc.{arc_value};
-ghost use Rattle.crypto_model.specs.Op.{IsFresh, entry_of};
+ghost use Rattle.crypto_op.specs.Op.{IsFresh, entry_of};
 
 use crate::moves::{give_out, take_in};
 use crypto_model::OutOfMemory;
-use crypto_model::thin::{Op, OpBurst, SessionTable};
+use crypto_model::thin::SessionTable;
+use crypto_op::{Op, OpBurst};
 use dev_core::{Device, Driver, Kind, SetUpRefused, Stats};
 use std::alloc::Global;
 use std::collections::VecDeque;

@@ -1,11 +1,14 @@
 ghost use Rattle.std.specs.Prelude.{IfOk};
 ghost use Rattle.std.specs.List.{All};
-ghost use Rattle.crypto_model.specs.Op.{IsFresh};
+ghost use Rattle.crypto_op.specs.Op.{IsFresh};
 
 use crate::{PlainDriver, process};
-use crypto_model::thin::{Iv, Mbuf, Op, OpBurst, OpSpec, Session, SessionTable};
+use crypto_model::thin::{Session, SessionTable};
 use crypto_model::{DigestPlace, Range, SessId, Status};
+use crypto_op::{Aad, Iv, Op, OpBurst, OpSpec};
 use dev_core::{Device, Driver, Kind, SetUpRefused, Stats};
+use mbuf_chain::Mbuf;
+use seg_list::Seg;
 use std::alloc::Global;
 use std::process::Abort;
 use std::sync::Arc;
@@ -37,26 +40,61 @@ fn one_session(alloc: Global, key: u128) -> Result<SessionTable, Fail> {
     Ok(table)
 }
 
+// A segment with these bytes.
+fn segment(alloc: Global, bytes: &[u8]) -> Result<Seg, Fail> {
+    if 1024 < bytes.len() {
+        return Err(Fail::from("not in a segment"));
+    }
+    let mut seg = Seg::new(alloc, 128)?;
+    seg.set(128, bytes.len());
+    seg.data_mut().copy_from_slice(bytes);
+    Ok(seg)
+}
+
+// A packet of three segments, cut behind so many bytes.
+fn packet(alloc: Global, bytes: &[u8], first: usize, second: usize) -> Result<Mbuf, Fail> {
+    let (one, rest) = bytes.split_at_checked(first).ok_or("cut")?;
+    let (two, three) = rest.split_at_checked(second).ok_or("cut")?;
+    let mut chain = Mbuf::new(alloc, segment(alloc, one)?).ok().ok_or("memory")?;
+    chain.add_seg(segment(alloc, two)?).ok().ok_or("memory")?;
+    chain.add_seg(segment(alloc, three)?).ok().ok_or("memory")?;
+    Ok(chain)
+}
+
 // An operation whose cargo is the number of its session.
 fn operation(
     alloc: Global,
     session: u32,
     iv: &[u8],
     cipher: Range,
-    packet: &[u8],
+    chain: Mbuf,
 ) -> Result<Op<u32>, Fail>
     ensures { IfOk result IsFresh }
 {
     let spec = OpSpec {
         session: SessId(session),
         iv: Iv::copy(iv.get(..16).unwrap_or(iv)),
+        aad: Aad::empty(alloc),
         cipher,
         auth: Range { off: 0, len: 0 },
         place: DigestPlace::Nowhere,
         digest: [0; 64],
         pos: 0,
     };
-    Ok(Op::new(spec, Mbuf::of(Vec::from_slice(alloc, packet)?), session))
+    Ok(Op::new(spec, chain, session))
+}
+
+// The packet has these bytes in three segments.
+fn assert_packet(rt: &impl Abort, chain: &Mbuf, bytes: &[u8], what: &str) {
+    let mut got = [0; 32];
+    assert!(rt; chain.len() == bytes.len());
+    assert!(rt; bytes.len() <= 32);
+    chain.read_at(0, &mut got[..bytes.len()]);
+    assert_eq!(rt;
+        (&got[..bytes.len()], chain.seg_count()),
+        (bytes, 3),
+        "{what}"
+    );
 }
 
 #[test]
@@ -72,16 +110,29 @@ fn process_does_the_example_of_the_standard_or_refuses(rt: HostRuntime) -> Resul
         (0, 16, 5, 16, Status::InvalidArgs, TEXT),
     ] {
         let iv = iv.get(..iv_len).ok_or("iv")?;
-        let mut op = operation(alloc, session, iv, Range { off, len }, &framed(TEXT))?;
+        let chain = packet(alloc, &framed(TEXT), 3, 0)?;
+        let mut op = operation(alloc, session, iv, Range { off, len }, chain)?;
         process(&table, &mut op);
-        let (_, got, packet, _) = op.into_parts();
         assert_eq!(rt;
-            got,
+            op.status(),
             status,
-            "session {session}, IV of {iv_len}, {len} bytes from {off}"
+            "session {session}, {len} bytes from {off}"
         );
-        assert!(rt; packet.len() == 20);
-        assert_eq!(rt; packet.piece(0, 20), framed(block).as_slice());
+        assert_packet(&rt, op.chain(), &framed(block), "framed");
+    }
+    Ok(())
+}
+
+#[test]
+fn a_block_may_lie_in_several_segments(rt: HostRuntime) -> Result<(), Fail> {
+    let alloc = rt.alloc();
+    let table = one_session(alloc, KEY)?;
+    for (first, second) in [(1, 0), (7, 9), (0, 16), (5, 6)] {
+        let chain = packet(alloc, &TEXT.to_be_bytes(), first, second)?;
+        let all = Range { off: 0, len: 16 };
+        let mut op = operation(alloc, 0, &COUNTER.to_be_bytes(), all, chain)?;
+        process(&table, &mut op);
+        assert_packet(&rt, op.chain(), &CIPHER.to_be_bytes(), "cut");
     }
     Ok(())
 }
@@ -90,11 +141,14 @@ fn process_does_the_example_of_the_standard_or_refuses(rt: HostRuntime) -> Resul
 fn the_counter_carries_into_its_first_byte(rt: HostRuntime) -> Result<(), Fail> {
     let alloc = rt.alloc();
     let table = one_session(alloc, 0)?;
-    let mut op = operation(alloc, 0, &[0xff; 16], Range { off: 0, len: 32 }, &[0; 32])?;
+    let chain = packet(alloc, &[0; 32], 9, 10)?;
+    let mut op = operation(alloc, 0, &[0xff; 16], Range { off: 0, len: 32 }, chain)?;
     process(&table, &mut op);
     assert!(rt; op.chain().len() == 32);
     let last = 0x66e9_4bd4_ef8a_2c3b_884c_fa59_ca34_2b2e_u128.to_be_bytes();
-    assert_eq!(rt; op.chain().piece(16, 16), last.as_slice());
+    let mut got = [0; 16];
+    op.chain().read_at(16, &mut got);
+    assert_eq!(rt; got, last);
     Ok(())
 }
 
@@ -105,9 +159,9 @@ fn three(alloc: Global) -> Result<OpBurst<u32>, Fail>
     let (iv, all) = (COUNTER.to_be_bytes(), Range { off: 0, len: 16 });
     let text = TEXT.to_be_bytes();
     let mut burst = OpBurst::new(alloc, 3)?;
-    burst.push(operation(alloc, 0, &iv, all, &text)?);
-    burst.push(operation(alloc, 1, &iv, all, &text)?);
-    burst.push(operation(alloc, 2, &iv, all, &text)?);
+    burst.push(operation(alloc, 0, &iv, all, packet(alloc, &text, 16, 0)?)?);
+    burst.push(operation(alloc, 1, &iv, all, packet(alloc, &text, 4, 4)?)?);
+    burst.push(operation(alloc, 2, &iv, all, packet(alloc, &text, 0, 0)?)?);
     Ok(burst)
 }
 
@@ -124,12 +178,7 @@ fn counts(stats: Stats) -> [u64; 4] {
 // The operation is answered, as one of this session, with this packet.
 fn assert_answer(rt: &impl Abort, op: &Op<u32>, session: u32, status: Status, block: u128) {
     assert_eq!(rt; (*op.cargo(), op.status()), (session, status));
-    assert!(rt; op.chain().len() == 16);
-    assert_eq!(rt;
-        op.chain().piece(0, 16),
-        block.to_be_bytes().as_slice(),
-        "session {session}"
-    );
+    assert_packet(rt, op.chain(), &block.to_be_bytes(), "answer");
 }
 
 #[test]

@@ -1,18 +1,14 @@
-use Rattle.std.proofs.Common.{◌≡◌, length, ap, sym, ◌∙◌, arith}
-use Rattle.crypto_model.specs.Process.{Input}
-use Rattle.crypto_model.specs.Op.{Entry, made}
-use Rattle.crypto_model.specs.declared.thin.spec.Card.{Card}
+use Rattle.std.proofs.Common.{◌≡◌, ap, ◌∙◌}
+use Rattle.mbuf_chain.specs.Chain.{packet_of}
 use Rattle.sym_engine.specs.Driver.{sessions_of}
-use Rattle.sym_engine.proofs.Answered.{length-processed}
+use Rattle.capcrypt.specs.Packet.{answer_to}
+use Rattle.capcrypt.proofs.OneOperation.{answer_is}
 use Rattle.capcrypt.proofs.packet.answer.Goals as goal
 
-pub returns-clause-small : goal.returns-clause-small
-returns-clause-small c =
-    let op = c.through-op.result in
-    let sessions = sessions_of c.args.dev.now in
-    let kept : length op.chain ≡ length ((made op).packet) =
-    ap (λ (i : Input). length i.packet) c.through-op.ensures.done.present ∙ length-processed sessions (made op) in
-    let input : length ((made op).packet) ≡ length c.replace-bytes.result =
-    ap (λ (e : Entry Card). length e.input.packet) c.through-op.ensures.entry ∙ sym (ap (λ (i : Input). length i.packet) c.operation.ensures.fresh.input)
-    ∙ ap (λ (i : Input). length i.packet) c.operation.ensures.input in
-    omega (arith, kept, input, ap length c.replace-bytes.ensures.value, ap length c.into_parts-spec.ensures.chain, c.requires.small)
+pub returns-clause-answered : goal.returns-clause-answered
+returns-clause-answered c =
+    let is = answer_is (sessions_of c.args.dev.now) c.args.salt c.args.n c.operation.result c.through-op.result c.args.rec.packet c.operation.ensures.fresh c.operation.ensures.input c.through-op.ensures.done c.through-op.ensures.entry in
+    let a = answer_to (sessions_of c.args.dev.now) c.args.salt c.args.n (packet_of c.args.rec.packet) in
+    let status : c.into_parts-spec.result.1 ≡ a.status = c.into_parts-spec.ensures.status ∙ is.0 in
+    let packet : packet_of c.into_parts-spec.result.2 ≡ a.packet = ap packet_of c.into_parts-spec.ensures.chain ∙ is.1 in
+    cc

@@ -2,10 +2,10 @@ use Rattle.std.proofs.Common.{◌≡◌, ℕ, ◌+◌, List, [], ◌∷◌, ◌+
 use Rattle.std.specs.List.{All}
 use Rattle.crypto_model.specs.Counts.{capped}
 use Rattle.crypto_model.specs.Process.{Transform}
-use Rattle.crypto_model.specs.Op.{Entry, entry_of, IsDone}
-use Rattle.crypto_model.specs.Burst.{Burst}
-use Rattle.crypto_model.specs.declared.thin.op.Op.{Op}
-use Rattle.crypto_model.specs.declared.thin.spec.Card.{Card}
+use Rattle.crypto_op.specs.Op.{Entry, entry_of, IsDone}
+use Rattle.crypto_op.specs.Burst.{Burst}
+use Rattle.crypto_op.specs.declared.op.Op.{Op}
+use Rattle.crypto_op.specs.declared.spec.Card.{Card}
 use Rattle.dev_core.specs.declared.stats.Stats.{Stats}
 use Rattle.sym_engine.specs.Driver.{held_of, sessions_of, stats_of}
 use Rattle.capcrypt.proofs.OneOperation.{one_taken, none_left, all_added, same_entry}

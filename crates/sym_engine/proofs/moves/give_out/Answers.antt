@@ -2,8 +2,8 @@ use Rattle.std.proofs.Common.{◌≡◌, ◌∷◌, [], ◌++◌, drop, take, ma
 use Rattle.std.proofs.lemmas.Grind.{common_steps}
 use Rattle.std.proofs.lemmas.List.{append_assoc, map-append}
 use Rattle.std.proofs.lemmas.List.Elements.{All-push}
-use Rattle.crypto_model.specs.Op.{entry_of}
-use Rattle.crypto_model.specs.Op.{IsDone}
+use Rattle.crypto_op.specs.Op.{entry_of}
+use Rattle.crypto_op.specs.Op.{IsDone}
 use Rattle.sym_engine.proofs.Steps.{front_next, rest_next, behind_next}
 use Rattle.sym_engine.proofs.moves.give_out.Goals as goal
 

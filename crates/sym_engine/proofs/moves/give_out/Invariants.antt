@@ -1,8 +1,8 @@
 use Rattle.std.proofs.Common.{◌≡◌, ◌+◌, ◌++◌, length, take, drop, map}
 use Rattle.std.specs.List.{All}
 use Rattle.std.specs.VecDeque.{deque_len, deque_capacity}
-use Rattle.crypto_model.specs.Op.{entry_of}
-use Rattle.crypto_model.specs.Op.{IsDone}
+use Rattle.crypto_op.specs.Op.{entry_of}
+use Rattle.crypto_op.specs.Op.{IsDone}
 use Rattle.sym_engine.proofs.moves.give_out.Given as goal
 
 abbrev pub invariant-loop-i : goal.invariant-loop-i

@@ -1,7 +1,7 @@
 use Rattle.std.proofs.Common.{map}
 use Rattle.std.proofs.lemmas.List.{map-append, take-append-drop}
 use Rattle.std.proofs.lemmas.List.Sorted.{IsPermutation-refl}
-use Rattle.crypto_model.specs.Op.{entry_of}
+use Rattle.crypto_op.specs.Op.{entry_of}
 use Rattle.sym_engine.proofs.plain.PlainDriverDriver.dequeue_burst.Goals as goal
 
 pub returns-clause-in_order : goal.returns-clause-in_order

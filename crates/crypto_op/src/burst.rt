@@ -1,0 +1,86 @@
+//! A list of operations with a fixed capacity.
+ghost use Rattle.std.specs.Prelude.{◌≡◌, ◌∷◌, [], ◌++◌, ◌+◌, ◌<◌, ◌≤◌, ◌-◌, length, IfOk, IsSome, ◌↔◌, slice_index_or};
+ghost use Rattle.std.specs.Option.{option_to_list};
+ghost use Rattle.crypto_op.specs.Burst.{at_pos};
+
+use crate::Op;
+use crypto_model::OutOfMemory;
+use std::alloc::Global;
+use std::collections::VecDeque;
+use std::marker::Model;
+
+#[derive(Drop)]
+pub struct OpBurst<C> {
+    cap: usize,
+    ops: VecDeque<Op<C>>,
+}
+
+impl<C> Model for OpBurst<C> {
+    ghost use Rattle.std.specs.Prelude.{◌≤◌};
+    ghost use Rattle.std.specs.VecDeque.{deque_len, deque_capacity};
+    ghost use Rattle.crypto_op.specs.declared.op.Op.{Op};
+    ghost use Rattle.crypto_op.specs.Burst.{Burst};
+
+    ghost Value = { Burst (Op C) };
+
+    ghost view = { λ b. record { cap = b.cap; ops = b.ops.items } };
+
+    ghost invariant = { λ b. (deque_len b.ops ≤ b.cap) × (b.cap ≤ deque_capacity b.ops) };
+}
+
+impl<C> OpBurst<C> {
+    pub fn new(alloc: Global, cap: usize) -> Result<OpBurst<C>, OutOfMemory>
+        requires { cap ≤ 4096 }
+        ensures { IfOk result (λ b. b ≡ record { cap = cap; ops = [] }) }
+    {
+        Ok(OpBurst {
+            cap,
+            ops: VecDeque::with_capacity(alloc, cap)?,
+        })
+    }
+
+    pub fn len(&self) -> usize
+        ensures { result ≡ length self.now.ops }
+    {
+        self.ops.len()
+    }
+
+    pub fn room(&self) -> usize
+        ensures { result + length self.now.ops ≡ self.now.cap }
+    {
+        self.cap - self.ops.len()
+    }
+
+    pub fn push(&mut self, op: Op<C>)
+        requires { length self.old.ops < self.old.cap }
+        ensures { self.new ≡ record { cap = self.old.cap; ops = self.old.ops ++ op ∷ [] } }
+    {
+        match self.ops.push_back(op) {
+            Ok(()) => {}
+            Err(_) => unreachable!(),
+        }
+    }
+
+    pub fn pop(&mut self) -> Option<Op<C>>
+        ensures cap { self.new.cap ≡ self.old.cap }
+        ensures ops { self.old.ops ≡ option_to_list result ++ self.new.ops }
+        ensures variant { IsSome result ↔ (0 < length self.old.ops) }
+    {
+        self.ops.pop_front()
+    }
+
+    pub fn get(&self, i: usize) -> &Op<C>
+        requires { i < length self.now.ops }
+        ensures { result.now ≡ slice_index_or self.now.ops i result.now }
+    {
+        &self.ops[i]
+    }
+
+    pub fn set_pos(&mut self, i: usize, pos: u64)
+        requires { i < length self.old.ops }
+        ensures { self.new ≡ record { cap = self.old.cap; ops = at_pos self.old.ops i pos } }
+    {
+        let op = &mut self.ops[i];
+        op.set_pos(pos);
+    }
+}

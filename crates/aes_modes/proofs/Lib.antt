@@ -1,3 +1,6 @@
 pub mod XorLists
 pub mod KeyStream
+pub mod LowFirst
 pub mod Pieces
+pub mod CbcBlocks
+pub mod ChainPieces

@@ -20,11 +20,14 @@ pub struct Ctr<'a> {
     ghost within: { used ≤ 16 },
 }
 
+// Made of two words, since the bytes of a `u128` would go through memory.
 #[inline(always)]
 fn counter_lanes(counter: u128) -> u8x16
     ensures { result ≡ counter_block counter }
 {
-    u8x16::from_array(counter.to_be_bytes())
+    let high = (counter >> 64) as u64;
+    let low = (counter % (1 << 64)) as u64;
+    u64x2::from_array([low, high]).to_le_bytes().reverse()
 }
 
 impl<'a> Ctr<'a> {

@@ -4,7 +4,5 @@ pub mod Aes
 pub mod Modes
 pub mod Chain
 pub mod Process
-pub mod Op
-pub mod Burst
-pub mod Lending
 pub mod Block
+pub mod Hmac

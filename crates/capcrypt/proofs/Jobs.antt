@@ -15,7 +15,7 @@ use Rattle.capcrypt.specs.declared.command.Quick.{Quick}
 use Rattle.capcrypt.specs.declared.ending.Outcome.{Outcome}
 use Rattle.capcrypt.specs.declared.ending.Ending.{Ending}
 use Rattle.capcrypt.specs.declared.ending.Ending.TheVariants.{Done, Memory, Usage, Capture, ReadFault, WriteFault, TooLarge}
-use Rattle.capcrypt.specs.Quick.{Begins}
+use Rattle.capcrypt.specs.Quick.{ctr_session, Begins}
 use Rattle.capcrypt.specs.Packet.{Answered, answered_from}
 use Rattle.capcrypt.specs.Written.{raised, answer_bytes, counts_of, ending_at}
 use Rattle.capcrypt.specs.Ran.{Job, IsWritten, IsDecided, IsUsed, HasServed, CutAt, AppendsUpto, ReadsAs, stop_ending}
@@ -71,7 +71,7 @@ module _ (q : Quick) (h : Header) (rs : List Rec) (rest : Rest) (o : Outcome) (o
   head = header_bytes (raised h)
 
   abbrev answers : List Answered
-  answers = answered_from (q.session ∷ []) q.salt 0 rs
+  answers = answered_from (ctr_session q.key ∷ []) q.salt 0 rs
 
   abbrev body : List ℕ
   body = flat_map (answer_bytes h.big) answers
@@ -185,7 +185,7 @@ module _ (q : Quick) (h : Header) (rs : List Rec) (rest : Rest) (o : Outcome) (o
   written_all (TooLarge value) n d wrote = wrote ∙ append_assoc old head body
 
   pub all_done : (n : ℕ) → o.ending ≡ ending_at rest → IsDecided (ending_at rest) → o.header ≡ true → n ≡ length answers → o.counts ≡ counts_of answers
-      → new ≡ (old ++ head) ++ body → HasServed q.session (length rs) after → Job (Begins q) (Holds h rs rest) o old new before after
+      → new ≡ (old ++ head) ++ body → HasServed (ctr_session q.key) (length rs) after → Job (Begins q) (Holds h rs rest) o old new before after
   all_done n ending can header count counts wrote served =
       let all : take n answers ≡ answers = take_all n answers (omega arith) in
       record {
@@ -200,7 +200,7 @@ module _ (q : Quick) (h : Header) (rs : List Rec) (rest : Rest) (o : Outcome) (o
 -- the same run, whose sink could not be flushed
 module _ (q : Quick) (h : Header) (rs : List Rec) (rest : Rest) (o o' : Outcome) (old new : List ℕ) (before after : PlainDriver Card) where
   abbrev count : ℕ
-  count = length (answered_from (q.session ∷ []) q.salt 0 rs)
+  count = length (answered_from (ctr_session q.key ∷ []) q.salt 0 rs)
 
   upto_of : (e : Ending) (n : ℕ) → n ≤ count → (IsDecided e → n ≡ count) → IsWritten e (Begins q) (Holds h rs rest) n old new → AppendsUpto (Begins q) (Holds h rs rest) n old new
   upto_of Memory n within all written = written

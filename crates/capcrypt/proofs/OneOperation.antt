@@ -7,7 +7,7 @@ use Rattle.seg_list.specs.Buffer.{Buffer}
 use Rattle.mbuf_chain.specs.Chain.{packet_of}
 use Rattle.mbuf_chain.proofs.Chains.{packet_of-with_packet}
 use Rattle.crypto_op.specs.Op.{Request, Entry, entry_of, input_of, made, present, data_len_of, IsFresh, IsDone}
-use Rattle.sym_engine.proofs.Answered.{length-processed}
+use Rattle.crypto_model.proofs.Processed.{length-processed}
 use Rattle.capcrypt.specs.Packet.{answer_to, packet_input}
 use Rattle.crypto_op.specs.declared.op.Op.{Op}
 use Rattle.crypto_op.specs.declared.spec.Card.{Card}

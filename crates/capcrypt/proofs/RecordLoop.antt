@@ -1,7 +1,7 @@
 -- Records that are answered and written one after another.
-use Rattle.std.proofs.Common.{◌≡◌, ℕ, Bool, ◌+◌, ◌<◌, List, [], ◌∷◌, ◌++◌, length, map, take, drop, get_or, set, count_by, cond, refl, ap, sym, ◌∙◌, arith, add-zero, add-one, length-take}
+use Rattle.std.proofs.Common.{◌≡◌, ℕ, Bool, ◌+◌, ◌<◌, List, [], ◌∷◌, ◌++◌, length, map, take, drop, get_or, count_by, cond, refl, ap, sym, ◌∙◌, arith, add-zero, add-one, length-take}
 use Rattle.std.specs.List.{flat_map}
-use Rattle.std.proofs.lemmas.List.{get_or-map, length-map, map-append, take_more, take_more_set, take-append-drop, drop-set-lt, get_or-drop, drop-drop}
+use Rattle.std.proofs.lemmas.List.{get_or-map, length-map, map-append, take-append-drop}
 use Rattle.std.proofs.lemmas.List.Sums.{sum_by-cons}
 use Rattle.std.proofs.Math.Seq.{drop-cons}
 use Rattle.crypto_model.specs.Process.{Transform}

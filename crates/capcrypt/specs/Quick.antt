@@ -2,7 +2,9 @@
 use Rattle.std.specs.Prelude.{ℕ, List, [], ◌∷◌, codes, Option, Some, None, Result, Ok, Err, bytes_eq, if◌then◌else◌}
 use Rattle.hex.specs.Hex.{decode_sized}
 use Rattle.hex.specs.declared.error.FromHexError.{FromHexError}
-use Rattle.crypto_model.specs.Process.{ctr_session}
+use Rattle.crypto_model.specs.Process.{Transform, Cipher}
+use Rattle.crypto_model.specs.declared.plain.CipherAlg.TheVariants.{AesCtr}
+use Rattle.crypto_model.specs.declared.plain.Dir.TheVariants.{Encrypt}
 use Rattle.capcrypt.specs.declared.command.Quick.{Quick}
 use Rattle.capcrypt.specs.declared.ending.Ending.{Ending}
 use Rattle.capcrypt.specs.declared.ending.Ending.TheVariants.{Usage}
@@ -19,8 +21,12 @@ key_of text = or_else (decode_sized text 16) (or_else (decode_sized text 24) (or
 abbrev pub salt_of : List ℕ → Option (List ℕ)
 salt_of text = or_else (decode_sized text 4) None
 
+-- the session of a key: one transform
+abbrev pub ctr_session : List ℕ → List Transform
+ctr_session key = Cipher AesCtr Encrypt key ∷ []
+
 abbrev pub quick_of : Option (List ℕ) → Option (List ℕ) → Option Quick
-quick_of (Some key) (Some salt) = Some (record { session = ctr_session key; salt = salt })
+quick_of (Some key) (Some salt) = Some (record { key = key; salt = salt })
 quick_of _ _ = None
 
 -- `quick KEY SALT`, and nothing else

@@ -14,7 +14,7 @@ use Rattle.capture_io.specs.Capture.{Rec, Rest, End, Bad, Large, Reading, NoHead
 use Rattle.capcrypt.specs.declared.ending.Outcome.{Outcome}
 use Rattle.capcrypt.specs.declared.ending.Ending.{Ending}
 use Rattle.capcrypt.specs.declared.ending.Ending.TheVariants.{Done, Memory, Capture, ReadFault, WriteFault, TooLarge}
-use Rattle.capcrypt.specs.Quick.{Start, Begins, Stops}
+use Rattle.capcrypt.specs.Quick.{ctr_session, Start, Begins, Stops}
 use Rattle.capcrypt.specs.Packet.{Answered}
 use Rattle.capcrypt.specs.Written.{answers_of, answer_bytes, counts_upto, written_of, written_upto, ending_of, reads_header}
 use Rattle.capcrypt.specs.Report.{number_of, report_of}
@@ -80,13 +80,13 @@ pub record HasServed (session : List Transform) (m : ℕ) (d : PlainDriver Card)
 
 -- Device 0 is as it was, or it has answered at most as many operations as there are records.
 abbrev pub IsUsed : Start → Reading → PlainDriver Card → PlainDriver Card → Type 0
-IsUsed (Begins q) (Holds h rs rest) before after = (after ≡ before) ⊎ ((m : ℕ) × (m ≤ length rs) × HasServed q.session m after)
+IsUsed (Begins q) (Holds h rs rest) before after = (after ≡ before) ⊎ ((m : ℕ) × (m ≤ length rs) × HasServed (ctr_session q.key) m after)
 IsUsed (Begins q) (NoHeader at cause) before after = after ≡ before
 IsUsed (Stops e) reading before after = after ≡ before
 
 -- It has answered an operation for each record.
 abbrev pub IsUsedWhole : Start → Reading → PlainDriver Card → Type 0
-IsUsedWhole (Begins q) (Holds h rs rest) after = HasServed q.session (length rs) after
+IsUsedWhole (Begins q) (Holds h rs rest) after = HasServed (ctr_session q.key) (length rs) after
 IsUsedWhole (Begins q) (NoHeader at cause) after = Unit {0}
 IsUsedWhole (Stops e) reading after = Unit {0}
 

@@ -8,7 +8,7 @@ use Rattle.capture_io.specs.Capture.{Rest, End, Bad, Large, Reading, NoHeader, H
 use Rattle.capcrypt.specs.declared.ending.Counts.{Counts}
 use Rattle.capcrypt.specs.declared.ending.Ending.{Ending}
 use Rattle.capcrypt.specs.declared.ending.Ending.TheVariants.{Done, Capture, TooLarge}
-use Rattle.capcrypt.specs.Quick.{Start, Begins, Stops}
+use Rattle.capcrypt.specs.Quick.{ctr_session, Start, Begins, Stops}
 use Rattle.capcrypt.specs.Packet.{Answered, answered_from}
 
 abbrev pub raised : Header → Header
@@ -16,7 +16,7 @@ raised h = record { big = h.big; nanos = h.nanos; zone = h.zone; sigfigs = h.sig
 
 -- the records of a whole run, answered
 abbrev pub answers_of : Start → Reading → List Answered
-answers_of (Begins q) (Holds h rs rest) = answered_from (q.session ∷ []) q.salt 0 rs
+answers_of (Begins q) (Holds h rs rest) = answered_from (ctr_session q.key ∷ []) q.salt 0 rs
 answers_of (Begins q) (NoHeader at cause) = []
 answers_of (Stops e) reading = []
 

@@ -1,29 +1,28 @@
 //! What the words ask for.
-ghost use Rattle.std.specs.Prelude.{◌≡◌, map, option_map, string_bytes};
-ghost use Rattle.crypto_model.specs.Process.{ctr_session};
+ghost use Rattle.std.specs.Prelude.{◌≡◌, map, string_bytes};
 ghost use Rattle.capcrypt.specs.Quick.{asked, key_of, salt_of};
 
-use crypto_model::thin::Session;
+use aes_core::Key;
 use hex::FromHex;
 
-/// `quick KEY SALT`: one CTR session for every packet, and the salt of its counters.
+/// `quick KEY SALT`: the key of one CTR session for every packet, and the salt of its counters.
 #[derive(Drop)]
 pub struct Quick {
-    pub session: Session,
+    pub key: Key,
     pub salt: [u8; 4],
 }
 
-fn session_of(text: &str) -> Option<Session>
-    ensures { result ≡ option_map ctr_session (key_of text.now) }
+fn key_in(text: &str) -> Option<Key>
+    ensures { result ≡ key_of text.now }
 {
     if let Ok(key) = <[u8; 16] as FromHex>::from_hex(text) {
-        return Session::ctr(&key).ok();
+        return Key::expand(&key).ok();
     }
     if let Ok(key) = <[u8; 24] as FromHex>::from_hex(text) {
-        return Session::ctr(&key).ok();
+        return Key::expand(&key).ok();
     }
     match <[u8; 32] as FromHex>::from_hex(text) {
-        Ok(key) => Session::ctr(&key).ok(),
+        Ok(key) => Key::expand(&key).ok(),
         Err(_) => None,
     }
 }
@@ -44,7 +43,7 @@ pub fn quick_of(words: &[String]) -> Option<Quick>
     if word.as_str() != "quick" {
         return None;
     }
-    let session = session_of(key.as_str())?;
+    let key = key_in(key.as_str())?;
     let salt = salt_in(salt.as_str())?;
-    Some(Quick { session, salt })
+    Some(Quick { key, salt })
 }

@@ -1,11 +1,11 @@
 //! The top call.
-ghost use Rattle.std.specs.Prelude.{◌≡◌, ◌≤◌, ◌<◌, ◌++◌, ◌⊎◌, ◌^◌, true, List, ℕ, [], ◌∷◌, length, map, drop, slice_index_or, All, OnOk, OnErr, string_bytes};
+ghost use Rattle.std.specs.Prelude.{◌≡◌, ◌≤◌, ◌<◌, ◌++◌, ◌⊎◌, ◌^◌, true, List, ℕ, [], ◌∷◌, length, map, drop, slice_index_or, All, IfOk, OnOk, OnErr, string_bytes};
 ghost use Rattle.crypto_model.specs.Counts.{Rose, capped};
 ghost use Rattle.crypto_op.specs.declared.spec.Card.{Card};
 ghost use Rattle.sym_engine.specs.declared.plain.PlainDriver.{PlainDriver};
 ghost use Rattle.sym_engine.specs.Driver.{held_of};
 ghost use Rattle.capture_io.specs.Capture.{Rec, Rest, Records, Reading, IsReading, Holds, first_place, header_bytes, view};
-ghost use Rattle.capcrypt.specs.Quick.{Begins, asked, start_of};
+ghost use Rattle.capcrypt.specs.Quick.{Begins, asked, ctr_session, start_of};
 ghost use Rattle.capcrypt.specs.Written.{raised, counts_of, ending_of};
 ghost use Rattle.capcrypt.specs.Report.{number_of};
 ghost use Rattle.capcrypt.specs.Ran.{HasServed, IsDecided, Job, Ran, ReadsAs, stop_ending};
@@ -16,15 +16,16 @@ use crate::packet::answer_all;
 use crate::reading::read_all;
 use crate::report::write_report;
 use crate::writing::{counts_of, write_records};
+use aes_core::Key;
 use capture_io::{Header, ReadStop, Record, Sink, Source, read_header, write_header};
-use crypto_model::OutOfMemory;
-use crypto_model::thin::{Session, SessionTable};
+use crypto_model::{CipherAlg, Dir, OutOfMemory};
 use crypto_op::Card;
 use dev_core::{Device, Driver, Kind, SetUpRefused};
 use std::alloc::Global;
 use std::collections::VecDeque;
 use std::sync::Arc;
 use sym_engine::PlainDriver;
+use sym_session::{KeyBytes, MakeRefused, Session, SessionTable, Xform};
 
 /// What a run leaves: its exit status, the devices that it was handed, in their order, and how many
 /// operations were processed beside them.
@@ -80,11 +81,28 @@ fn told(ending: Ending, counts: Counts) -> Outcome
     }
 }
 
-fn set_up(alloc: Global, dev: &mut PlainDriver<Card>, session: Session) -> Result<(), OutOfMemory>
+fn ctr_session(alloc: Global, key: &Key) -> Result<Session, OutOfMemory>
+    ensures { IfOk result (λ s. s ≡ ctr_session key.now) }
+{
+    let xform = Xform::Cipher {
+        alg: CipherAlg::AesCtr,
+        dir: Dir::Encrypt,
+        key: KeyBytes::copy(alloc, key.bytes())?,
+    };
+    match Session::make(alloc, &[xform]) {
+        Ok(session) => Ok(session),
+        Err(MakeRefused::OutOfMemory) => Err(OutOfMemory),
+        Err(_) => unreachable!(),
+    }
+}
+
+// Sets the device up with one session, whose one transform is CTR under this key.
+fn set_up(alloc: Global, dev: &mut PlainDriver<Card>, key: &Key) -> Result<(), OutOfMemory>
     requires idle { held_of dev.old ≡ [] }
-    ensures served { OnOk result (HasServed session 0 dev.new) }
+    ensures served { OnOk result (HasServed (ctr_session key.now) 0 dev.new) }
     ensures unused { OnErr result (dev.new ≡ dev.old) }
 {
+    let session = ctr_session(alloc, key)?;
     let mut sessions = SessionTable::new(alloc)?;
     match sessions.add(session) {
         Ok(_) => {}
@@ -111,10 +129,10 @@ fn finish<K: Sink>(
 ) -> Outcome
     requires decided { IsDecided (stop_ending stop) }
     requires few { length records.items < 2 ^ 32 }
-    requires served { (session : _) × HasServed session 0 dev.old }
-    ensures job { K.tells → (session : _) (rs : List Rec) (rest : Rest) (old : List ℕ) (before : PlainDriver Card) → HasServed session 0 dev.old
+    requires served { (key : List ℕ) × HasServed (ctr_session key) 0 dev.old }
+    ensures job { K.tells → (key : List ℕ) (rs : List Rec) (rest : Rest) (old : List ℕ) (before : PlainDriver Card) → HasServed (ctr_session key) 0 dev.old
         → ReadsAs (map view records.items) stop rs rest → K.written out.old ≡ old ++ header_bytes (raised header.now)
-        → Job (Begins (record { session = session; salt = salt })) (Holds header.now rs rest) result old (K.written out.new) before dev.new }
+        → Job (Begins (record { key = key; salt = salt })) (Holds header.now rs rest) result old (K.written out.new) before dev.new }
     ensures header { result.header ≡ true }
     ensures done { result.ending ≡ Ending.Done → stop ≡ ReadStop.End }
     ensures never { ¬ (result.ending ≡ Ending.ReadFault) }
@@ -142,10 +160,10 @@ fn rewrite<S: Source, K: Sink>(
     out: &mut K,
     dev: &mut PlainDriver<Card>,
 ) -> Outcome
-    requires served { (session : _) × HasServed session 0 dev.old }
-    ensures job { S.tells → K.tells → (session : _) (rs : List Rec) (rest : Rest) (before : PlainDriver Card) → HasServed session 0 dev.old
+    requires served { (key : List ℕ) × HasServed (ctr_session key) 0 dev.old }
+    ensures job { S.tells → K.tells → (key : List ℕ) (rs : List Rec) (rest : Rest) (before : PlainDriver Card) → HasServed (ctr_session key) 0 dev.old
         → Records header.now.big first_place (S.left capture.old) rs rest
-        → Job (Begins (record { session = session; salt = salt })) (Holds header.now rs rest) result (K.written out.old) (K.written out.new) before dev.new }
+        → Job (Begins (record { key = key; salt = salt })) (Holds header.now rs rest) result (K.written out.old) (K.written out.new) before dev.new }
     ensures header { result.header ≡ true }
     ensures ended { S.tells → result.ending ≡ Ending.Done → S.left capture.new ≡ [] }
     ensures read_later { S.faults capture.old ≤ S.faults capture.new }
@@ -197,8 +215,8 @@ fn transform<S: Source, K: Sink>(
     ensures write_later { K.faults out.old ≤ K.faults out.new }
     ensures write_cause { result.ending ≡ Ending.WriteFault → Rose (K.faults out.old) (K.faults out.new) }
 {
-    let Quick { session, salt } = quick;
-    let Ok(()) = set_up(alloc, dev, session) else {
+    let Quick { key, salt } = quick;
+    let Ok(()) = set_up(alloc, dev, &key) else {
         return nothing(Ending::Memory, true);
     };
     let outcome = rewrite(alloc, salt, header, capture, out, dev);

@@ -4,3 +4,4 @@ pub mod Listed
 pub mod Schedule
 pub mod Laid
 pub mod Vectors
+pub mod Processed

@@ -6,3 +6,5 @@ pub mod Chain
 pub mod Process
 pub mod Block
 pub mod Hmac
+pub mod Gcm
+pub mod Session

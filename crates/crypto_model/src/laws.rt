@@ -1,8 +1,9 @@
 //! The definitions, computed on published vectors.
-ghost use Rattle.std.specs.Prelude.{◌≡◌, drop, replicate};
+ghost use Rattle.std.specs.Prelude.{◌≡◌, [], drop, replicate};
 ghost use Rattle.std.specs.List.{range_with_len};
 ghost use Rattle.crypto_model.specs.Aes.{cipher, inverse_cipher};
 ghost use Rattle.crypto_model.specs.Modes.{ctr, cbc_encrypt, cbc_decrypt};
+ghost use Rattle.crypto_model.specs.Gcm.{gcm_text, gcm_tag};
 ghost use Rattle.crypto_model.specs.Block.{block};
 
 /// The cipher and its inverse on the examples of FIPS 197, Appendix C, whose keys are the bytes 0, 1, 2 and so on.
@@ -19,4 +20,12 @@ pub fn mode_vectors()
     ensures cbc_back { cbc_decrypt (inverse_cipher (block 0x2b7e151628aed2a6abf7158809cf4f3c)) (range_with_len 0 16) (block 0x7649abac8119b246cee98e9b12e9197d) ≡ block 0x6bc1bee22e409f96e93d7e117393172a }
     ensures ctr { ctr (cipher (block 0x2b7e151628aed2a6abf7158809cf4f3c)) (block 0xf0f1f2f3f4f5f6f7f8f9fafbfcfdfeff) (block 0x6bc1bee22e409f96e93d7e117393172a) ≡ block 0x874d6191b620e3261bef6864990db6ce }
     ensures ctr_carry { drop 16 (ctr (cipher (replicate 16 0)) (replicate 16 255) (replicate 32 0)) ≡ block 0x66e94bd4ef8a2c3b884cfa59ca342b2e }
+{}
+
+/// GCM under the zero key and the zero IV, with no text and with one zero block: test cases 1 and 2 of the
+/// mode's first publication.
+pub fn gcm_vectors()
+    ensures tag_of_no_text { gcm_tag (cipher (replicate 16 0)) (replicate 12 0) [] [] ≡ block 0x58e2fccefa7e3061367f1d57a4e7455a }
+    ensures text { gcm_text (cipher (replicate 16 0)) (replicate 12 0) (replicate 16 0) ≡ block 0x0388dace60b6a392f328c2b971b2fe78 }
+    ensures tag { gcm_tag (cipher (replicate 16 0)) (replicate 12 0) [] (block 0x0388dace60b6a392f328c2b971b2fe78) ≡ block 0xab6e47d42cec13bdf53a67b21257bddf }
 {}

@@ -5,9 +5,8 @@
 mod laws;
 mod plain;
 mod slow;
-pub mod thin;
 
-pub use laws::{cipher_vectors, mode_vectors};
+pub use laws::{cipher_vectors, gcm_vectors, mode_vectors};
 pub use plain::{Act, CipherAlg, DigestPlace, Dir, Hash, OutOfMemory, Range, SessId, Status};
 pub use slow::{BadKeyLength, Substitution, expanded, slow_encrypt};
 

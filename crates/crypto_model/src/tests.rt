@@ -1,5 +1,4 @@
-use crate::thin::{Session, SessionTable};
-use crate::{SessId, slow_encrypt};
+use crate::slow_encrypt;
 use std::test::Fail;
 
 const KEY: [u8; 32] = [
@@ -26,23 +25,5 @@ fn slow_encrypt_gives_the_examples_of_the_standard(rt: HostRuntime) -> Result<()
         );
     }
     assert!(rt; slow_encrypt(&KEY[..17], PLAIN.to_be_bytes()).is_err());
-    Ok(())
-}
-
-#[test]
-fn a_table_numbers_its_sessions(rt: HostRuntime) -> Result<(), Fail> {
-    let alloc = rt.alloc();
-    let mut table = SessionTable::new(alloc)?;
-    for number in 0..1024 {
-        let session = Session::ctr(&KEY[..16])?;
-        assert_eq!(rt; table.add(session).ok(), Some(SessId(number)));
-    }
-    assert!(rt; table.add(Session::ctr(&KEY)?).is_err());
-    assert_eq!(rt;
-        table.get(SessId(1023)).ok_or("no session")?.key(),
-        &KEY[..16]
-    );
-    assert!(rt; table.get(SessId(1024)).is_none());
-    assert!(rt; Session::ctr(&KEY[..15]).is_err());
     Ok(())
 }

@@ -6,7 +6,7 @@ ghost use Rattle.std.specs.Arc.{arc_value};
 
 use crate::Stats;
 use crypto_model::SessId;
-use crypto_model::thin::SessionTable;
+use sym_session::SessionTable;
 use crypto_op::OpBurst;
 use std::alloc::{AllocError, Global};
 use std::sync::Arc;

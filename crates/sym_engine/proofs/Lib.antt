@@ -1,2 +1,6 @@
 pub mod Steps
+pub mod Units
+pub mod EachItem
+pub mod Written
+pub mod Ordered
 pub mod Answered

@@ -1,1 +1,3 @@
 pub mod Driver
+pub mod Laws
+pub mod Working

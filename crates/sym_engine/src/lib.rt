@@ -1,10 +1,17 @@
 //! Processing an operation, and the plain device, which does it for each operation that is dequeued.
+//!
+//! [`process`] checks an operation against its session, and then does the session's transforms on the packet
+//! where it lies. A clause calls an operation `IsDone` where it carries the answer to the request that it was
+//! made with.
 #![tactic(auto)]
 
-mod ctr;
+mod checks;
+mod mode;
 mod moves;
 mod plain;
 mod processing;
+mod walk;
+mod work;
 
 pub use plain::PlainDriver;
 pub use processing::process;

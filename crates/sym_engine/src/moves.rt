@@ -6,9 +6,9 @@ ghost use Rattle.crypto_op.specs.Op.{IsFresh, IsDone, entry_of};
 ghost use Rattle.dev_core.specs.Burst.{room_of, rest_of, added, with_ops};
 
 use crate::process;
-use crypto_model::thin::SessionTable;
 use crypto_op::{Op, OpBurst};
 use std::collections::VecDeque;
+use sym_session::SessionTable;
 
 // Pushes where there is room, which takes no memory.
 fn put<C>(queue: &mut VecDeque<Op<C>>, op: Op<C>)

@@ -9,13 +9,13 @@ ghost use Rattle.crypto_op.specs.Op.{IsFresh, entry_of};
 
 use crate::moves::{give_out, take_in};
 use crypto_model::OutOfMemory;
-use crypto_model::thin::SessionTable;
 use crypto_op::{Op, OpBurst};
 use dev_core::{Device, Driver, Kind, SetUpRefused, Stats};
 use std::alloc::Global;
 use std::collections::VecDeque;
 use std::mem::replace;
 use std::sync::Arc;
+use sym_session::SessionTable;
 
 const MAX_DEPTH: usize = 4096;
 

@@ -1,67 +1,69 @@
-//! What an operation asks for is checked and done.
-ghost use Rattle.std.specs.Prelude.{◌≡◌, ◌+◌, nat_le, length, IfSome, IsNone, ◌↔◌, ◌≢◌};
-ghost use Rattle.crypto_model.specs.Process.{answer_of, processed};
-ghost use Rattle.mbuf_chain.specs.Chain.{with_packet, shape_of};
+//! An operation from its checks to its status.
+ghost use Rattle.std.specs.Prelude.{◌≡◌, ℕ, List, map, true, false, Some};
+ghost use Rattle.crypto_model.specs.Process.{all_worked, answer_of, fits, processed};
+ghost use Rattle.mbuf_chain.specs.Chain.{packet_of, shape_of};
 ghost use Rattle.crypto_op.specs.Op.{input_of, present, entry_of, with_chain, IsFresh, IsDone};
+ghost use Rattle.sym_session.specs.First.{VerifiesFirst};
+ghost use Rattle.sym_session.specs.Plain.{plain};
+ghost use Rattle.sym_engine.specs.Working.{asked, work_of, outcome, with_answer, IsWritten};
 
-use crate::ctr::ctr_range;
-use aes_core::Key;
-use crypto_model::thin::{Session, SessionTable};
-use crypto_model::{Range, Status};
+use crate::checks::all_fit;
+use crate::work::step_work;
+use crypto_model::Status;
 use crypto_op::Op;
+use sym_session::{Session, SessionTable, Step};
 
-fn lies_in(range: Range, length: usize) -> bool
-    ensures { result ≡ nat_le (range.off + range.len) length }
+// The transforms, one after another; false where a digest isn't the computed one.
+fn all_work<C>(steps: &[Step], op: &mut Op<C>, digest: &mut [u8; 64]) -> bool
+    requires fit { fits (asked op.old.spec (packet_of op.old.chain)) (map plain steps.now) ≡ true }
+    requires first { VerifiesFirst (map plain steps.now) }
+    ensures works { (p : List ℕ) → all_worked (map plain steps.now) (asked op.old.spec p) (Some (work_of op.old.chain digest.old))
+        ≡ outcome result (work_of op.new.chain digest.new) }
+    ensures kept { op.new ≡ with_chain op.old op.new.chain }
+    ensures written { IsWritten op.old.chain op.new.chain }
+    ensures unless { result ≡ false → op.new.chain ≡ op.old.chain }
 {
-    range.off as usize + range.len as usize <= length
-}
-
-fn counter_block(iv: &[u8]) -> Option<[u8; 16]>
-    ensures block { IfSome result (λ block. block ≡ iv.now) }
-    ensures refused { IsNone result ↔ (length iv.now ≢ 16) }
-{
-    if iv.len() != 16 {
-        return None;
+    for step in steps {
+        if !step_work(step, op, digest) {
+            return false;
+        }
     }
-    let mut block = [0; 16];
-    block.copy_from_slice(iv);
-    Some(block)
+    true
 }
 
-// Does the session's one transform, where the operation's arguments fit it.
-fn transform<C>(session: &Session, op: &mut Op<C>) -> Status
+// Changes packet and digest field as the answer under this session says, and gives the answer's status.
+fn answer_under<C>(session: &Session, op: &mut Op<C>) -> Status
     ensures status { result ≡ (answer_of session.now (input_of (present op.old))).status }
-    ensures packet { op.new ≡ with_chain op.old (with_packet op.old.chain (answer_of session.now (input_of (present op.old))).packet) }
+    ensures answer { op.new ≡ with_answer op.old (answer_of session.now (input_of (present op.old))) }
+    ensures shape { shape_of op.new.chain ≡ shape_of op.old.chain }
 {
-    let Ok(key) = Key::expand(session.key()) else {
-        unreachable!()
-    };
-    let range = op.spec().cipher;
-    let Some(iv) = counter_block(op.spec().iv.bytes()) else {
-        return Status::InvalidArgs;
-    };
-    if !lies_in(range, op.chain().len()) {
+    let steps = session.steps();
+    if !all_fit(steps, op.spec(), op.chain().len()) {
         return Status::InvalidArgs;
     }
-    let (off, len) = (range.off as usize, range.len as usize);
-    ctr_range(&key, iv, op.chain_mut(), off, len);
+    let mut digest = op.spec().digest;
+    if !all_work(steps, op, &mut digest) {
+        return Status::AuthFailed;
+    }
+    op.set_digest(digest);
     Status::Success
 }
 
-// Changes the packet as the answer says, and gives the answer's status.
 fn answer<C>(table: &SessionTable, op: &mut Op<C>) -> Status
     ensures status { result ≡ (processed table.now (input_of (present op.old))).status }
-    ensures packet { op.new ≡ with_chain op.old (with_packet op.old.chain (processed table.now (input_of (present op.old))).packet) }
+    ensures answer { op.new ≡ with_answer op.old (processed table.now (input_of (present op.old))) }
+    ensures shape { shape_of op.new.chain ≡ shape_of op.old.chain }
 {
     match table.get(op.spec().session) {
         None => Status::InvalidSession,
-        Some(session) => transform(session, op),
+        Some(session) => answer_under(session, op),
     }
 }
 
-/// Answers an operation: first the checks, and then the transforms of its session. Where the
-/// status isn't `Success`, the packet is as it was. The packet's bytes are worked on where they lie, and
-/// no byte outside its data changes. Takes no memory.
+/// Answers an operation: first the checks, and then the transforms of its session, one after another. Where
+/// the status isn't `Success`, packet and digest field are as they were: a digest is verified before a byte
+/// changes. The packet's bytes are worked on where they lie, and no byte outside its data changes. Takes no
+/// memory.
 pub fn process<C>(table: &SessionTable, op: &mut Op<C>)
     requires { IsFresh op.old }
     ensures done { IsDone table.now op.new }

@@ -4,7 +4,6 @@ use Rattle.capture_io.specs.Capture.{view}
 use Rattle.sym_engine.specs.Driver.{sessions_of}
 use Rattle.sym_engine.proofs.Steps.{rest_next}
 use Rattle.capcrypt.specs.Packet.{answered, answered_view}
-use Rattle.capcrypt.specs.declared.packet.Packet.{Packet}
 use Rattle.capcrypt.proofs.RecordLoop.{answered_from-nil, answered_more}
 use Rattle.capcrypt.proofs.packet.answer_all.Goals as goal
 

@@ -1,4 +1,4 @@
-use Rattle.std.proofs.Common.{◌≡◌, ◌≤◌, ◌+◌, [], length, map, take, drop, vec_len, vec_capacity}
+use Rattle.std.proofs.Common.{◌≡◌, ◌≤◌, ◌+◌, [], length, map, take, drop, vec_capacity}
 use Rattle.crypto_model.specs.Counts.{capped}
 use Rattle.sym_engine.specs.Driver.{held_of, depth_of, sessions_of, stats_of}
 use Rattle.capture_io.specs.Capture.{view}

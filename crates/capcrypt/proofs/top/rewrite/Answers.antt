@@ -7,8 +7,8 @@ use Rattle.capcrypt.proofs.Jobs.{header_cut, header_alone, none_written, reading
 use Rattle.capcrypt.proofs.top.rewrite.Goals as goal
 
 pub returns-in-Err-clause-job : goal.returns-in-Err-clause-job
-returns-in-Err-clause-job g c s_told k_told session rs rest before served reads =
-    let q : Quick = record { session = session; salt = c.args.salt } in
+returns-in-Err-clause-job g c s_told k_told key rs rest before served reads =
+    let q : Quick = record { key = key; salt = c.args.salt } in
     let old = g.K.Sink.written c.args.out.now in
     let new = g.K.Sink.written c.write_header.new.sink in
     let part : AppendsPart old new (header_bytes (raised c.args.header.now)) = rw c.raise.ensures at (c.in-Err.ensures.fault k_told) in
@@ -16,8 +16,8 @@ returns-in-Err-clause-job g c s_told k_told session rs rest before served reads 
     (header_cut q c.args.header.now rs rest c.nothing.result old new before c.args.dev.now part) (inr (0, omega arith, served))
 
 pub returns-in-Fault-clause-job : goal.returns-in-Fault-clause-job
-returns-in-Fault-clause-job g c s_told k_told session rs rest before served reads =
-    let q : Quick = record { session = session; salt = c.args.salt } in
+returns-in-Fault-clause-job g c s_told k_told key rs rest before served reads =
+    let q : Quick = record { key = key; salt = c.args.salt } in
     let old = g.K.Sink.written c.args.out.now in
     let new = g.K.Sink.written c.write_header.new.sink in
     let wrote : new ≡ old ++ header_bytes (raised c.args.header.now) = rw c.raise.ensures at (c.in_default.ensures.written k_told) in
@@ -25,8 +25,8 @@ returns-in-Fault-clause-job g c s_told k_told session rs rest before served read
     wrote (inr (0, omega arith, served))
 
 pub returns-in-OutOfMemory-clause-job : goal.returns-in-OutOfMemory-clause-job
-returns-in-OutOfMemory-clause-job g c s_told k_told session rs rest before served reads =
-    let q : Quick = record { session = session; salt = c.args.salt } in
+returns-in-OutOfMemory-clause-job g c s_told k_told key rs rest before served reads =
+    let q : Quick = record { key = key; salt = c.args.salt } in
     let old = g.K.Sink.written c.args.out.now in
     let new = g.K.Sink.written c.write_header.new.sink in
     let wrote : new ≡ old ++ header_bytes (raised c.args.header.now) = rw c.raise.ensures at (c.in_default.ensures.written k_told) in

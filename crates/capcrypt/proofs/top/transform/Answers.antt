@@ -15,7 +15,7 @@ returns-clause-job g c s_told k_told rs rest reads =
     let before = c.args.dev.now in
     let after = c.rewrite-outcome.new.dev in
     let job : Job (Begins q) (Holds h rs rest) c.rewrite-outcome.result old new before after =
-    c.rewrite-outcome.ensures.job s_told k_told q.session rs rest before c.in-Ok.ensures.served reads in
+    c.rewrite-outcome.ensures.job s_told k_told q.key rs rest before c.in-Ok.ensures.served reads in
     let ended : Job (Begins q) (Holds h rs rest) c.flushed.result old new before after = elim c.flushed.ensures.outcome [
       | inl same ↦ subst (λ (o : Outcome). Job (Begins q) (Holds h rs rest) o old new before after) (sym same) job
       | inr failed ↦ flush_failed q h rs rest c.rewrite-outcome.result c.flushed.result old new before after job failed.0

@@ -1,0 +1,131 @@
+//! One transform at work on an operation.
+ghost use Rattle.std.specs.Prelude.{◌≡◌, ◌≤◌, ◌+◌, ◌%◌, ℕ, List, length, take, false};
+ghost use Rattle.crypto_model.specs.declared.plain.CipherAlg.TheVariants.{AesCbc};
+ghost use Rattle.crypto_model.specs.Chain.{laid_at};
+ghost use Rattle.crypto_model.specs.Process.{Cipher, Auth, crypted, bytes_in, digest_at, with_digest, worked};
+ghost use Rattle.hmac_core.specs.States.{HmacHolds};
+ghost use Rattle.mbuf_chain.specs.Chain.{packet_of, with_packet};
+ghost use Rattle.crypto_op.specs.Op.{with_chain};
+ghost use Rattle.sym_session.specs.Plain.{plain};
+ghost use Rattle.sym_engine.specs.Working.{asked, work_of, place_ready, ready, outcome, IsWritten};
+
+use crate::walk::{feed_range, work_on};
+use aes_modes::{CbcDec, CbcEnc, Ctr};
+use crypto_model::{Act, CipherAlg, DigestPlace, Dir, Range};
+use crypto_op::Op;
+use hmac_core::Hmac;
+use mbuf_chain::Mbuf;
+use sym_session::{AuthStep, CipherStep, Step};
+
+fn block(iv: &[u8]) -> [u8; 16]
+    requires { length iv.now ≡ 16 }
+    ensures { result ≡ iv.now }
+{
+    let mut block = [0; 16];
+    block.copy_from_slice(iv);
+    block
+}
+
+// Encrypts or decrypts a range of a packet in place.
+fn crypt(step: &CipherStep, iv: [u8; 16], chain: &mut Mbuf, range: Range)
+    requires inside { range.off + range.len ≤ length (packet_of chain.old) }
+    requires whole { step.now.alg ≡ AesCbc → range.len % 16 ≡ 0 }
+    ensures { chain.new ≡ with_packet chain.old (laid_at range.off (crypted step.now.alg step.now.dir step.now.key iv (bytes_in range (packet_of chain.old))) (packet_of chain.old)) }
+{
+    let (off, len) = (range.off as usize, range.len as usize);
+    match step.alg {
+        CipherAlg::AesCtr => work_on(&mut Ctr::new(&step.key, iv), chain, off, len),
+        CipherAlg::AesCbc => match step.dir {
+            Dir::Encrypt => work_on(&mut CbcEnc::new(&step.key, iv), chain, off, len),
+            Dir::Decrypt => work_on(&mut CbcDec::new(&step.key, iv), chain, off, len),
+        },
+    }
+}
+
+// The code of a range, before its end.
+fn fed(step: &AuthStep, chain: &Mbuf, range: Range) -> Hmac
+    requires { range.off + range.len ≤ length (packet_of chain.now) }
+    ensures { HmacHolds step.now.hash step.now.key result (bytes_in range (packet_of chain.now)) }
+{
+    let mut code = Hmac::start(step.key());
+    feed_range(&mut code, chain, range.off as usize, range.len as usize);
+    code
+}
+
+// The first `n` bytes at the digest's place.
+fn read_digest(place: DigestPlace, n: usize, chain: &Mbuf, digest: &[u8; 64]) -> [u8; 64]
+    requires ready { place_ready n (packet_of chain.now) place }
+    requires short { n ≤ 64 }
+    ensures { take n result ≡ digest_at place n (work_of chain.now digest.now) }
+{
+    match place {
+        DigestPlace::Nowhere => unreachable!(),
+        DigestPlace::OwnField => *digest,
+        DigestPlace::InChain(at) => {
+            let mut read = [0; 64];
+            chain.read_at(at as usize, &mut read[..n]);
+            read
+        }
+    }
+}
+
+fn write_digest(place: DigestPlace, code: &[u8], chain: &mut Mbuf, digest: &mut [u8; 64])
+    requires ready { place_ready (length code.now) (packet_of chain.old) place }
+    requires short { length code.now ≤ 64 }
+    ensures chain { chain.new ≡ with_packet chain.old (with_digest place code.now (work_of chain.old digest.old)).packet }
+    ensures digest { digest.new ≡ (with_digest place code.now (work_of chain.old digest.old)).digest }
+{
+    match place {
+        DigestPlace::Nowhere => unreachable!(),
+        DigestPlace::OwnField => digest[..code.len()].copy_from_slice(code),
+        DigestPlace::InChain(at) => chain.write_at(at as usize, code),
+    }
+}
+
+fn cipher_work<C>(step: &CipherStep, op: &mut Op<C>)
+    requires { ready (asked op.old.spec (packet_of op.old.chain)) (Cipher step.now.alg step.now.dir step.now.key) }
+    ensures { op.new ≡ with_chain op.old (with_packet op.old.chain (laid_at op.old.spec.cipher.off (crypted step.now.alg step.now.dir step.now.key op.old.spec.iv (bytes_in op.old.spec.cipher (packet_of op.old.chain))) (packet_of op.old.chain))) }
+{
+    let iv = block(op.spec().iv.bytes());
+    let range = op.spec().cipher;
+    crypt(step, iv, op.chain_mut(), range);
+}
+
+fn auth_work<C>(step: &AuthStep, op: &mut Op<C>, digest: &mut [u8; 64]) -> bool
+    requires { ready (asked op.old.spec (packet_of op.old.chain)) (Auth step.now.hash step.now.act step.now.key step.now.len) }
+    ensures works { (p : List ℕ) → worked (Auth step.now.hash step.now.act step.now.key step.now.len) (asked op.old.spec p) (work_of op.old.chain digest.old) ≡ outcome result (work_of op.new.chain digest.new) }
+    ensures kept { op.new ≡ with_chain op.old op.new.chain }
+    ensures written { IsWritten op.old.chain op.new.chain }
+    ensures unless { result ≡ false → op.new.chain ≡ op.old.chain }
+{
+    let code = fed(step, op.chain(), op.spec().auth);
+    let (place, n) = (op.spec().place, step.digest_len());
+    match step.act() {
+        Act::Generate => {
+            let tag = code.finish();
+            write_digest(place, &tag.bytes[..n], op.chain_mut(), digest);
+            true
+        }
+        Act::Verify => {
+            let read = read_digest(place, n, op.chain(), digest);
+            code.verify(&read[..n])
+        }
+    }
+}
+
+/// One transform; false where a digest isn't the computed one.
+pub(crate) fn step_work<C>(step: &Step, op: &mut Op<C>, digest: &mut [u8; 64]) -> bool
+    requires { ready (asked op.old.spec (packet_of op.old.chain)) (plain step.now) }
+    ensures works { (p : List ℕ) → worked (plain step.now) (asked op.old.spec p) (work_of op.old.chain digest.old) ≡ outcome result (work_of op.new.chain digest.new) }
+    ensures kept { op.new ≡ with_chain op.old op.new.chain }
+    ensures written { IsWritten op.old.chain op.new.chain }
+    ensures unless { result ≡ false → op.new.chain ≡ op.old.chain }
+{
+    match step {
+        Step::Cipher(step) => {
+            cipher_work(step, op);
+            true
+        }
+        Step::Auth(step) => auth_work(step, op, digest),
+    }
+}

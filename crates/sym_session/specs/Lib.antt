@@ -1,0 +1,5 @@
+pub mod Auth
+pub mod Fault
+pub mod First
+pub mod Plain
+pub mod Xform

@@ -13,7 +13,7 @@ use Rattle.aes_core.specs.Basis.{back, back_key}
 use Rattle.aes_core.specs.KeyState.{IsExpanded}
 use Rattle.aes_core.proofs.Rows.{listed_same}
 
-cancelled : (x : ℕ) → bit_xor (bit_xor x 0x63) 0x63 ≡ x
+pub cancelled : (x : ℕ) → bit_xor (bit_xor x 0x63) 0x63 ≡ x
 cancelled x = xor_assoc x 0x63 0x63 ∙ ap (bit_xor x) (xor_self 0x63) ∙ xor_zero_r x
 
 inner_is : (k key : List ℕ) → length k ≡ 16 → map back key ≡ zip2 bit_xor k (replicate 16 0x63) → map back_key key ≡ k

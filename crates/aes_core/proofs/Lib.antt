@@ -7,3 +7,11 @@ pub mod Keys
 pub mod InverseBytes
 pub mod InverseStates
 pub mod DecryptRounds
+pub mod Wires
+pub mod Bits
+pub mod Squares
+pub mod Turns
+pub mod Steps
+pub mod Doubles
+pub mod Pairs
+pub mod Sliced

@@ -14,7 +14,7 @@ inner_key w inner key r e k =
     ap (map back_key) k ∙ sym (take-map back_key 16 (drop (16 * r) inner)) ∙ ap (take 16) (sym (drop-map back_key (16 * r) inner))
     ∙ ap (λ (q : List ℕ). take 16 (drop (16 * r) q)) e
 
-round_more : (w block s : List ℕ) (r : ℕ) → 1 ≤ r → s ≡ rounds w block (r - 1) → add_round_key w r (mix_columns (shift_rows (sub_bytes s))) ≡ rounds w block (r + 1 - 1)
+pub round_more : (w block s : List ℕ) (r : ℕ) → 1 ≤ r → s ≡ rounds w block (r - 1) → add_round_key w r (mix_columns (shift_rows (sub_bytes s))) ≡ rounds w block (r + 1 - 1)
 unfolding rounds
 round_more w block s r l e =
     let f : suc (r - 1) ≡ r = omega arith in

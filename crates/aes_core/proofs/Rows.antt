@@ -67,7 +67,7 @@ bare_double x = bit_xor (product 2 (sub_byte x)) 0xc6
 abbrev row_made : ℕ → ℕ → ℕ → ℕ → ℕ → ℕ
 row_made a b c d k = bit_xor (bit_xor (bit_xor (bare_double a) (bit_xor (bare_double b) (bare b))) (bit_xor (bare c) (bare d))) k
 
-abbrev row : ℕ → ℕ → ℕ → ℕ → ℕ → ℕ
+abbrev pub row : ℕ → ℕ → ℕ → ℕ → ℕ → ℕ
 row a b c d k =
     bit_xor (bit_xor (bit_xor (bit_xor (product 2 (sub_byte a)) (product 3 (sub_byte b))) (product 1 (sub_byte c))) (product 1 (sub_byte d))) (bit_xor k 0x63)
 
@@ -81,7 +81,7 @@ row_is a b c d k =
 
 -- ---- a state by its bytes
 
-abbrev laid : (ℕ → ℕ → ℕ → ℕ → ℕ → ℕ) → (ℕ → ℕ) → (ℕ → ℕ) → List ℕ
+abbrev pub laid : (ℕ → ℕ → ℕ → ℕ → ℕ → ℕ) → (ℕ → ℕ) → (ℕ → ℕ) → List ℕ
 laid f s k =
     f (s 0) (s 5) (s 10) (s 15) (k 0) ∷ f (s 5) (s 10) (s 15) (s 0) (k 1) ∷ f (s 10) (s 15) (s 0) (s 5) (k 2) ∷ f (s 15) (s 0) (s 5) (s 10) (k 3)
     ∷ f (s 4) (s 9) (s 14) (s 3) (k 4) ∷ f (s 9) (s 14) (s 3) (s 4) (k 5) ∷ f (s 14) (s 3) (s 4) (s 9) (k 6) ∷ f (s 3) (s 4) (s 9) (s 14) (k 7)
@@ -91,7 +91,7 @@ laid f s k =
 made_laid : (s k : ℕ → ℕ) → made (map bare (named s)) (map bare_double (named s)) (named k) ≡ laid row_made s k
 made_laid s k = refl
 
-round_laid : (s k : ℕ → ℕ) → laid row s k ≡ add_round_key (map (λ x. bit_xor x 0x63) (named k)) 0 (mix_columns (shift_rows (sub_bytes (named s))))
+pub round_laid : (s k : ℕ → ℕ) → laid row s k ≡ add_round_key (map (λ x. bit_xor x 0x63) (named k)) 0 (mix_columns (shift_rows (sub_bytes (named s))))
 unfolding add_round_key mix_columns shift_rows sub_bytes listed
 round_laid s k = refl
 
@@ -141,7 +141,7 @@ xored_is s k ls lk =
     let e : i ≡ 16 * 0 + i = omega arith in
     get_or-zip2 bit_xor s k i 0 0 0 (omega arith) (omega arith) ∙ ap (λ (j : ℕ). bit_xor (get_or s i 0) (get_or k j 0)) e) (omega arith)
 
-length-shift_rows : (s : List ℕ) → length (shift_rows s) ≡ 16
+pub length-shift_rows : (s : List ℕ) → length (shift_rows s) ≡ 16
 unfolding shift_rows
 length-shift_rows s = length-listed 16 _
 

@@ -10,7 +10,7 @@ pub swap : (a b c d : ℕ) → bit_xor (bit_xor a b) (bit_xor c d) ≡ bit_xor (
 swap a b c d =
     xor_assoc a b (bit_xor c d) ∙ ap (bit_xor a) (sym (xor_assoc b c d) ∙ ap (λ q. bit_xor q d) (xor_comm b c) ∙ xor_assoc c b d) ∙ sym (xor_assoc a c (bit_xor b d))
 
-bit_times : (p q b : ℕ) → p < 2 → q < 2 → bit_xor p q * b ≡ bit_xor (p * b) (q * b)
+pub bit_times : (p q b : ℕ) → p < 2 → q < 2 → bit_xor p q * b ≡ bit_xor (p * b) (q * b)
 bit_times zero zero b h l = let z : 0 * b ≡ 0 = omega arith in rw z refl
 bit_times zero (suc zero) b h l =
     let z : 0 * b ≡ 0 = omega arith in

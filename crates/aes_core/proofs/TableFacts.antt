@@ -7,13 +7,13 @@ use Rattle.aes_core.specs.declared.tables.TheConstants.{SBOX, BASIS_LOW, BASIS_H
 use Rattle.aes_core.specs.Basis.{chosen_sum, back}
 use Rattle.aes_core.specs.Nibbles.{read, high, low, place_u, place_t}
 
-abbrev agrees : (ℕ → ℕ) → (ℕ → ℕ) → ℕ → Bool
+abbrev pub agrees : (ℕ → ℕ) → (ℕ → ℕ) → ℕ → Bool
 agrees f g x = eqb (f x) (g x)
 
-at_byte : (f g : ℕ → ℕ) → all_below (agrees f g) 256 ≡ true → (x : ℕ) → x < 256 → f x ≡ g x
+pub at_byte : (f g : ℕ → ℕ) → all_below (agrees f g) 256 ≡ true → (x : ℕ) → x < 256 → f x ≡ g x
 at_byte f g all x lt = eqb-true _ _ (all_below_at (agrees f g) 256 all x lt)
 
-below_at_byte : (f : ℕ → ℕ) → all_below (λ x. ltb (f x) 256) 256 ≡ true → (x : ℕ) → x < 256 → f x < 256
+pub below_at_byte : (f : ℕ → ℕ) → all_below (λ x. ltb (f x) 256) 256 ≡ true → (x : ℕ) → x < 256 → f x < 256
 below_at_byte f all x lt = ltb-true _ _ (all_below_at (λ x. ltb (f x) 256) 256 all x lt)
 
 abbrev pub sbox : ℕ → ℕ

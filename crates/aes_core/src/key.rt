@@ -3,7 +3,9 @@ ghost use Rattle.std.specs.Prelude.{◌≡◌, ◌+◌, ◌<◌, ◌↔◌, leng
 ghost use Rattle.crypto_model.specs.Field.{sub_byte};
 ghost use Rattle.crypto_model.specs.Aes.{IsKeyLength, cipher, inverse_cipher, rounds_of};
 ghost use Rattle.aes_core.specs.Basis.{back_key};
+ghost use Rattle.aes_core.specs.Bitslice.{IsSliced, pairwise};
 
+use crate::bitslice::{encrypt_pairs, plane_keys};
 use crate::decryption::{decrypt_block, decrypt_four_blocks};
 use crate::encryption::{encrypt_block, encrypt_four_blocks, round_key};
 use crate::nibbles::into_basis;
@@ -39,18 +41,20 @@ fn inner_keys(words: &[u8; 240]) -> [u8; 240]
 pub struct Key {
     words: [u8; 240],
     inner: [u8; 240],
+    planes: [u8; 3840],
     rounds: usize,
 }
 
 impl Model for Key {
     ghost use Rattle.std.specs.Prelude.{List, ℕ, ◌-◌, ◌*◌, take};
     ghost use Rattle.aes_core.specs.KeyState.{IsExpanded};
+    ghost use Rattle.aes_core.specs.Bitslice.{IsSliced};
 
     ghost Value = { List ℕ };
 
     ghost view = { λ k. take (4 * (k.rounds - 6)) k.words };
 
-    ghost invariant = { λ k. IsExpanded k.words k.inner k.rounds };
+    ghost invariant = { λ k. IsExpanded k.words k.inner k.rounds × IsSliced k.words k.planes };
 }
 
 impl Key {
@@ -64,9 +68,11 @@ impl Key {
         }
         let words = expanded::<ByTable>(bytes);
         let inner = inner_keys(&words);
+        let planes = plane_keys(&words);
         Ok(Key {
             words,
             inner,
+            planes,
             rounds: bytes.len() / 4 + 6,
         })
     }
@@ -114,6 +120,14 @@ pub fn encrypt_four(
     ensures fourth { result.3 ≡ cipher key.now d }
 {
     encrypt_four_blocks(&key.words, &key.inner, key.rounds, a, b, c, d)
+}
+
+/// Sixteen blocks under one key at once, two in a vector: fastest by far where the processor has AVX2.
+#[inline(always)]
+pub fn encrypt_sixteen(key: &Key, pairs: &[u8x32; 8]) -> [u8x32; 8]
+    ensures { result ≡ map (pairwise (cipher key.now)) pairs.now }
+{
+    encrypt_pairs(&key.planes, key.rounds, pairs)
 }
 
 /// The inverse cipher on one block (FIPS 197, 5.3).

@@ -1,14 +1,18 @@
-//! AES (FIPS 197) with an expanded key, by look-ups in tables of sixteen bytes that stay in vectors.
+//! AES (FIPS 197) with an expanded key: one block or four by look-ups in tables of sixteen bytes that stay in
+//! vectors, sixteen blocks in the planes of their bits.
 //! A clause sees a [`Key`] as its bytes; `cipher` and `inverse_cipher` are the standard's, under such a key.
 #![tactic(auto)]
 
+mod bitslice;
+mod circuit;
 mod decryption;
 mod encryption;
 mod key;
 mod nibbles;
+mod planes;
 mod tables;
 
-pub use key::{Key, decrypt, decrypt_four, encrypt, encrypt_four};
+pub use key::{Key, decrypt, decrypt_four, encrypt, encrypt_four, encrypt_sixteen};
 
 #[cfg(test)]
 mod tests;

@@ -4,3 +4,4 @@ pub mod LowFirst
 pub mod Pieces
 pub mod CbcBlocks
 pub mod ChainPieces
+pub mod Counters

@@ -42,11 +42,11 @@ zip2_is [] ys = refl
 zip2_is (x ∷ xs) [] = refl
 zip2_is (x ∷ xs) (y ∷ ys) = ap (λ (zs : List ℕ). bit_xor x y ∷ zs) (zip2_is xs ys)
 
--- a block that is read, changed and written back as lanes
-pub lanes_written : (block stream : List ℕ) → length block ≡ 16 → length stream ≡ 16
-    → put_chunk 0 block (zip2 bit_xor (take 16 block) stream) ≡ xor_with block stream
-lanes_written block stream long wide =
-    let whole : take 16 block ≡ block = take_all 16 block (omega arith) in
+-- a vector that is read, changed and written back as lanes
+pub lanes_written : (n : ℕ) (block stream : List ℕ) → length block ≡ n → length stream ≡ n
+    → put_chunk 0 block (zip2 bit_xor (take n block) stream) ≡ xor_with block stream
+lanes_written n block stream long wide =
+    let whole : take n block ≡ block = take_all n block (omega arith) in
     rw (whole, zip2_is block stream) (put_chunk_whole block (xor_with block stream) (omega (arith, length-xor_with block stream (omega arith))))
 
 pub nothing-xor_with : (ys : List ℕ) → xor_with [] ys ≡ []

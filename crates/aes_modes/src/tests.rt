@@ -30,11 +30,8 @@ fn zero_follows_the_last_counter(rt: HostRuntime) -> Result<(), Fail> {
     Ok(())
 }
 
-// Five blocks before the last counter.
-const COUNTER: u128 = u128::MAX - 4;
-
-fn by_blocks(text: &mut [u8]) -> Result<(), BadKeyLength> {
-    let mut counter = COUNTER;
+fn by_blocks(text: &mut [u8], first: u128) -> Result<(), BadKeyLength> {
+    let mut counter = first;
     for block in text.chunks_mut(16) {
         let stream = slow_encrypt(&KEY.to_be_bytes(), counter.to_be_bytes())?;
         for (byte, key) in block.iter_mut().zip(stream) {
@@ -45,19 +42,35 @@ fn by_blocks(text: &mut [u8]) -> Result<(), BadKeyLength> {
     Ok(())
 }
 
-#[test]
-fn pieces_give_what_the_whole_gives(rt: HostRuntime) -> Result<(), Fail> {
+// Whether pieces of these sizes are encrypted as the whole is.
+fn pieces_agree(first: u128) -> Result<bool, BadKeyLength> {
     let key = Key::expand(&KEY.to_be_bytes())?;
-    let text: [u8; 200] = array::from_fn(|i| (i % 251) as u8);
+    let text: [u8; 600] = array::from_fn(|i| (i % 251) as u8);
     let mut whole = text;
-    by_blocks(&mut whole)?;
-    for size in [1, 7, 16, 17, 64, 100, 200] {
+    by_blocks(&mut whole, first)?;
+    for size in [1, 7, 16, 64, 100, 256, 300, 600] {
         let mut pieces = text;
-        let mut ctr = Ctr::new(&key, COUNTER.to_be_bytes());
+        let mut ctr = Ctr::new(&key, first.to_be_bytes());
         for piece in pieces.chunks_mut(size) {
             ctr.feed(piece);
         }
-        assert!(rt; pieces == whole, "in pieces of {size}");
+        if pieces != whole {
+            return Ok(false);
+        }
     }
+    Ok(true)
+}
+
+#[test]
+fn pieces_give_what_the_whole_gives(rt: HostRuntime) -> Result<(), Fail> {
+    assert!(rt; pieces_agree(7)?);
+    Ok(())
+}
+
+// The lower word overflows within a group of blocks, and then both words.
+#[test]
+fn counters_overflow_within_a_group(rt: HostRuntime) -> Result<(), Fail> {
+    assert!(rt; pieces_agree(u128::from(u64::MAX - 9))?);
+    assert!(rt; pieces_agree(u128::MAX - 4)?);
     Ok(())
 }

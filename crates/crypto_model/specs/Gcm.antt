@@ -13,6 +13,10 @@ bits_of_byte byte = listed 8 (λ i. bit_at byte (7 - i))
 unfoldable pub bits_of : List ℕ → List ℕ
 bits_of bytes = flat_map bits_of_byte bytes
 
+-- the 128 bits of a number, the highest first
+unfoldable pub bits_128 : ℕ → List ℕ
+bits_128 n = listed 128 (λ i. bit_at n (127 - i))
+
 -- the number with these bits, the highest first, and the bytes
 unfoldable pub number_of : List ℕ → ℕ
 number_of [] = 0

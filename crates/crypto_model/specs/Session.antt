@@ -28,9 +28,7 @@ aad_len_fits (Aead dir key n aad_len) = nat_le aad_len 255
 -- one transform, or encryption and then a code over the ciphertext, or the same taken back
 abbrev pub is_chain : List Transform → Bool
 is_chain [] = false
-is_chain (Cipher alg dir key ∷ []) = true
-is_chain (Auth hash act key n ∷ []) = true
-is_chain (Aead dir key n aad_len ∷ ts) = false
+is_chain (t ∷ []) = true
 is_chain (Cipher alg Encrypt key ∷ Auth hash Generate code_key n ∷ []) = true
 is_chain (Auth hash Verify code_key n ∷ Cipher alg Decrypt key ∷ []) = true
 is_chain (t ∷ u ∷ ts) = false

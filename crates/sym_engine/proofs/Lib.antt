@@ -4,3 +4,4 @@ pub mod EachItem
 pub mod Written
 pub mod Ordered
 pub mod Answered
+pub mod Sealed

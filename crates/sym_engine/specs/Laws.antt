@@ -2,6 +2,7 @@
 use Rattle.std.proofs.Common.{◌≡◌, ◌<◌, ◌≤◌, ℕ, List, [], refl, arith}
 use Rattle.crypto_model.specs.Aes.{cipher, inverse_cipher}
 use Rattle.crypto_model.specs.Modes.{blocks, cut, ctr, ctr_from, cbc_encrypt, cbc_encrypt_from, cbc_decrypt, cbc_decrypt_from}
+use Rattle.crypto_model.specs.Gcm.{gctr_from, gcm_text}
 
 pub one_small : (0 < 1) × (1 ≤ 16)
 one_small = (omega arith, omega arith)
@@ -20,3 +21,7 @@ cbc_encrypt_of_nothing key iv = refl
 pub cbc_decrypt_of_nothing : (key iv : List ℕ) → cbc_decrypt (inverse_cipher key) iv [] ≡ []
 unfolding cbc_decrypt cbc_decrypt_from blocks cut
 cbc_decrypt_of_nothing key iv = refl
+
+pub gcm_of_nothing : (key iv : List ℕ) → gcm_text (cipher key) iv [] ≡ []
+unfolding gcm_text gctr_from blocks cut
+gcm_of_nothing key iv = refl

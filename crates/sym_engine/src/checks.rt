@@ -1,7 +1,7 @@
 //! The checks of an operation.
 ghost use Rattle.std.specs.Prelude.{◌≡◌, ℕ, List, map, length, ◌&&◌, ◌||◌};
 ghost use Rattle.std.specs.List.{list_all};
-ghost use Rattle.crypto_model.specs.Process.{lies_in, apart, range_of, digest_apart, iv_fits, data_fits, place_holds, transform_fits, fits};
+ghost use Rattle.crypto_model.specs.Process.{lies_in, apart, range_of, digest_apart, iv_fits, aad_fits, data_fits, place_holds, transform_fits, fits};
 ghost use Rattle.sym_session.specs.Plain.{plain};
 ghost use Rattle.sym_engine.specs.Working.{asked};
 
@@ -33,7 +33,7 @@ fn range_for(step: &Step, spec: &OpSpec) -> Range
     ensures { (p : List ℕ) → result ≡ range_of (asked spec.now p) (plain step.now) }
 {
     match step {
-        Step::Cipher(_) => spec.cipher,
+        Step::Cipher(_) | Step::Aead(_) => spec.cipher,
         Step::Auth(_) => spec.auth,
     }
 }
@@ -44,6 +44,16 @@ fn iv_holds(step: &Step, spec: &OpSpec) -> bool
     match step {
         Step::Cipher(_) => spec.iv.bytes().len() == 16,
         Step::Auth(_) => true,
+        Step::Aead(_) => spec.iv.bytes().len() == 12,
+    }
+}
+
+fn aad_holds(step: &Step, spec: &OpSpec) -> bool
+    ensures { (p : List ℕ) → result ≡ aad_fits (asked spec.now p) (plain step.now) }
+{
+    match step {
+        Step::Cipher(_) | Step::Auth(_) => true,
+        Step::Aead(step) => spec.aad.bytes().len() == step.aad_len(),
     }
 }
 
@@ -55,7 +65,7 @@ fn data_holds(step: &Step, spec: &OpSpec) -> bool
             CipherAlg::AesCbc => spec.cipher.len % 16 == 0,
             CipherAlg::AesCtr => true,
         },
-        Step::Auth(_) => true,
+        Step::Auth(_) | Step::Aead(_) => true,
     }
 }
 
@@ -89,6 +99,7 @@ fn step_fits(step: &Step, steps: &[Step], spec: &OpSpec, all: usize) -> bool
     let range = range_for(step, spec);
     if !lies(range.off as usize, range.len as usize, all)
         || !iv_holds(step, spec)
+        || !aad_holds(step, spec)
         || !data_holds(step, spec)
     {
         return false;
@@ -96,6 +107,7 @@ fn step_fits(step: &Step, steps: &[Step], spec: &OpSpec, all: usize) -> bool
     match step {
         Step::Cipher(_) => true,
         Step::Auth(step) => digest_has_place(steps, spec, all, step.digest_len()),
+        Step::Aead(step) => digest_has_place(steps, spec, all, step.tag_len()),
     }
 }
 

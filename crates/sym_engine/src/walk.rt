@@ -1,13 +1,10 @@
 //! Walks over a range of a packet, from one lent piece to the next.
-ghost use Rattle.std.specs.Prelude.{◌≡◌, ◌<◌, ◌≤◌, ◌+◌, ◌++◌, ◌%◌, [], List, ℕ, length, take, drop};
+ghost use Rattle.std.specs.Prelude.{◌≡◌, ◌<◌, ◌≤◌, ◌+◌, ◌++◌, ◌%◌, ◌^◌, [], List, ℕ, length, take, drop};
 ghost use Rattle.crypto_model.specs.Chain.{laid_at};
-ghost use Rattle.crypto_model.specs.declared.plain.Hash.{Hash as HashFunction};
-ghost use Rattle.hmac_core.specs.States.{HmacHolds};
 ghost use Rattle.mbuf_chain.specs.Chain.{packet_of, with_packet};
 ghost use Rattle.sym_engine.specs.Working.{TakesIn};
 
-use crate::mode::Mode;
-use hmac_core::Hmac;
+use crate::mode::{Absorb, Mode};
 use mbuf_chain::Mbuf;
 
 const MAX_UNIT: usize = 16;
@@ -16,7 +13,9 @@ const MAX_UNIT: usize = 16;
 fn gather<M: Mode>(mode: &mut M, chain: &mut Mbuf, at: usize, unit: usize)
     requires unit { unit ≡ M.unit }
     requires inside { at + unit ≤ length (packet_of chain.old) }
-    ensures { TakesIn M.holds M.made mode.old mode.new chain.old chain.new at unit }
+    requires small { M.counted mode.old + unit < 2 ^ 32 }
+    ensures works { TakesIn M.holds M.made mode.old mode.new chain.old chain.new at unit }
+    ensures counted { M.counted mode.new ≤ M.counted mode.old + unit }
 {
     let mut bytes = [0; MAX_UNIT];
     let bytes = &mut bytes[..unit];
@@ -25,13 +24,16 @@ fn gather<M: Mode>(mode: &mut M, chain: &mut Mbuf, at: usize, unit: usize)
     chain.write_at(at, bytes);
 }
 
-// The whole units at the front of what is left that lie in one segment, or else one unit. Answers how many bytes they are.
+// The whole units at the front of what is left that lie in one segment, or else one unit. Answers how many
+// bytes they are.
 fn take_in<M: Mode>(mode: &mut M, chain: &mut Mbuf, at: usize, left: usize) -> usize
     requires inside { at + left ≤ length (packet_of chain.old) }
     requires some { 0 < left }
     requires whole { left % M.unit ≡ 0 }
+    requires small { M.counted mode.old + left < 2 ^ 32 }
     ensures count { (0 < result) × (result ≤ left) × (result % M.unit ≡ 0) }
     ensures works { TakesIn M.holds M.made mode.old mode.new chain.old chain.new at result }
+    ensures counted { M.counted mode.new ≤ M.counted mode.old + result }
 {
     let unit = mode.unit();
     let n = chain.piece(at, left).len() / unit * unit;
@@ -48,8 +50,9 @@ fn take_in<M: Mode>(mode: &mut M, chain: &mut Mbuf, at: usize, left: usize) -> u
 pub(crate) fn work_on<M: Mode>(mode: &mut M, chain: &mut Mbuf, off: usize, len: usize)
     requires inside { off + len ≤ length (packet_of chain.old) }
     requires whole { len % M.unit ≡ 0 }
-    ensures { (key iv : List ℕ) → M.holds key iv mode.old []
-        → M.holds key iv mode.new (take len (drop off (packet_of chain.old)))
+    requires small { M.counted mode.old + len < 2 ^ 32 }
+    ensures { (key iv aad : List ℕ) → M.holds key iv aad mode.old []
+        → M.holds key iv aad mode.new (take len (drop off (packet_of chain.old)))
         × (chain.new ≡ with_packet chain.old (laid_at off (M.made key iv (take len (drop off (packet_of chain.old)))) (packet_of chain.old))) }
 {
     let _all = chain.len();
@@ -59,17 +62,18 @@ pub(crate) fn work_on<M: Mode>(mode: &mut M, chain: &mut Mbuf, off: usize, len: 
     }
 }
 
-/// Feeds a range of a packet to a code.
-pub(crate) fn feed_range(code: &mut Hmac, chain: &Mbuf, off: usize, len: usize)
-    requires { off + len ≤ length (packet_of chain.now) }
-    ensures { (hash : HashFunction) (key text : List ℕ) → HmacHolds hash key code.old text
-        → HmacHolds hash key code.new (text ++ take len (drop off (packet_of chain.now))) }
+/// Feeds a range of a packet.
+pub(crate) fn feed_range<A: Absorb>(into: &mut A, chain: &Mbuf, off: usize, len: usize)
+    requires inside { off + len ≤ length (packet_of chain.now) }
+    requires small { A.counted into.old + len < 2 ^ 32 }
+    ensures { (begun : A.Begun) (text : List ℕ) → A.holds begun into.old text
+        → A.holds begun into.new (text ++ take len (drop off (packet_of chain.now))) }
 {
     let _all = chain.len();
     let mut done = 0;
     while done < len {
         let piece = chain.piece(off + done, len - done);
-        code.feed(piece);
+        into.absorb(piece);
         done += piece.len();
     }
 }

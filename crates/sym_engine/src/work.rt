@@ -1,8 +1,13 @@
 //! One transform at work on an operation.
-ghost use Rattle.std.specs.Prelude.{◌≡◌, ◌≤◌, ◌+◌, ◌%◌, ℕ, List, length, take, false};
+ghost use Rattle.std.specs.Prelude.{◌≡◌, ◌≤◌, ◌+◌, ◌%◌, ℕ, [], List, length, take, false, bytes_eq, is_ok, IfOk, Some};
 ghost use Rattle.crypto_model.specs.declared.plain.CipherAlg.TheVariants.{AesCbc};
 ghost use Rattle.crypto_model.specs.Chain.{laid_at};
-ghost use Rattle.crypto_model.specs.Process.{Cipher, Auth, crypted, bytes_in, digest_at, with_digest, worked};
+ghost use Rattle.crypto_model.specs.declared.plain.Dir.{Dir};
+ghost use Rattle.crypto_model.specs.Process.{Cipher, Auth, Aead, crypted, bytes_in, digest_at, with_digest, worked};
+ghost use Rattle.crypto_model.specs.Aes.{cipher};
+ghost use Rattle.crypto_model.specs.Gcm.{gcm_tag, gcm_text};
+ghost use Rattle.gcm_core.specs.Sealing.{IsSealed, sealed_len};
+ghost use Rattle.gcm_core.specs.Opening.{IsAbsorbed, IsOpened, absorbed_len};
 ghost use Rattle.hmac_core.specs.States.{HmacHolds};
 ghost use Rattle.mbuf_chain.specs.Chain.{packet_of, with_packet};
 ghost use Rattle.crypto_op.specs.Op.{with_chain};
@@ -13,9 +18,10 @@ use crate::walk::{feed_range, work_on};
 use aes_modes::{CbcDec, CbcEnc, Ctr};
 use crypto_model::{Act, CipherAlg, DigestPlace, Dir, Range};
 use crypto_op::Op;
+use gcm_core::{BadTag, GcmOpen, GcmPlain, GcmSeal};
 use hmac_core::Hmac;
 use mbuf_chain::Mbuf;
-use sym_session::{AuthStep, CipherStep, Step};
+use sym_session::{AeadStep, AuthStep, CipherStep, Step};
 
 fn block(iv: &[u8]) -> [u8; 16]
     requires { length iv.now ≡ 16 }
@@ -24,6 +30,15 @@ fn block(iv: &[u8]) -> [u8; 16]
     let mut block = [0; 16];
     block.copy_from_slice(iv);
     block
+}
+
+fn nonce(iv: &[u8]) -> [u8; 12]
+    requires { length iv.now ≡ 12 }
+    ensures { result ≡ iv.now }
+{
+    let mut nonce = [0; 12];
+    nonce.copy_from_slice(iv);
+    nonce
 }
 
 // Encrypts or decrypts a range of a packet in place.
@@ -113,6 +128,101 @@ fn auth_work<C>(step: &AuthStep, op: &mut Op<C>, digest: &mut [u8; 64]) -> bool
     }
 }
 
+// Encrypts a range in place, and answers its tag.
+fn seal_range(seal: GcmSeal<'_>, chain: &mut Mbuf, range: Range) -> [u8; 16]
+    requires inside { range.off + range.len ≤ length (packet_of chain.old) }
+    requires new { sealed_len seal ≡ 0 }
+    ensures { (key iv aad : List ℕ) → IsSealed key iv aad seal.entry []
+        → (chain.new ≡ with_packet chain.old (laid_at range.off (gcm_text (cipher key) iv (bytes_in range (packet_of chain.old))) (packet_of chain.old)))
+        × (result ≡ gcm_tag (cipher key) iv aad (gcm_text (cipher key) iv (bytes_in range (packet_of chain.old)))) }
+{
+    let mut seal = seal;
+    work_on(&mut seal, chain, range.off as usize, range.len as usize);
+    seal.tag()
+}
+
+// Compares the tag of a range.
+fn verify_range<'a>(
+    ciphertext: GcmOpen<'a>,
+    chain: &Mbuf,
+    range: Range,
+    tag: &[u8],
+) -> Result<GcmPlain<'a>, BadTag>
+    requires inside { range.off + range.len ≤ length (packet_of chain.now) }
+    requires new { absorbed_len ciphertext ≡ 0 }
+    requires some { 4 ≤ length tag.now }
+    requires most { length tag.now ≤ 16 }
+    ensures { (key iv aad : List ℕ) → IsAbsorbed key iv aad ciphertext.entry []
+        → (is_ok result ≡ bytes_eq tag.now (take (length tag.now) (gcm_tag (cipher key) iv aad (bytes_in range (packet_of chain.now)))))
+        × IfOk result (λ plain. IsOpened key iv plain []) }
+{
+    let mut ciphertext = ciphertext;
+    feed_range(
+        &mut ciphertext,
+        chain,
+        range.off as usize,
+        range.len as usize,
+    );
+    ciphertext.verify(tag)
+}
+
+// Encrypts, and writes the tag of the ciphertext.
+fn seal<C>(step: &AeadStep, op: &mut Op<C>, digest: &mut [u8; 64])
+    requires { ready (asked op.old.spec (packet_of op.old.chain)) (Aead Dir.Encrypt step.now.key step.now.tag_len step.now.aad_len) }
+    ensures works { (p : List ℕ) → worked (Aead Dir.Encrypt step.now.key step.now.tag_len step.now.aad_len) (asked op.old.spec p) (work_of op.old.chain digest.old) ≡ Some (work_of op.new.chain digest.new) }
+    ensures kept { op.new ≡ with_chain op.old op.new.chain }
+    ensures written { IsWritten op.old.chain op.new.chain }
+{
+    let iv = nonce(op.spec().iv.bytes());
+    let (range, place, n) = (op.spec().cipher, op.spec().place, step.tag_len());
+    let seal = GcmSeal::new(step.key(), iv, op.spec().aad.bytes());
+    let tag = seal_range(seal, op.chain_mut(), range);
+    write_digest(place, &tag[..n], op.chain_mut(), digest);
+}
+
+// Decrypts, where the tag is the ciphertext's.
+fn open<C>(step: &AeadStep, op: &mut Op<C>, digest: &[u8; 64]) -> bool
+    requires { ready (asked op.old.spec (packet_of op.old.chain)) (Aead Dir.Decrypt step.now.key step.now.tag_len step.now.aad_len) }
+    ensures works { (p : List ℕ) → worked (Aead Dir.Decrypt step.now.key step.now.tag_len step.now.aad_len) (asked op.old.spec p) (work_of op.old.chain digest.now) ≡ outcome result (work_of op.new.chain digest.now) }
+    ensures kept { op.new ≡ with_chain op.old op.new.chain }
+    ensures written { IsWritten op.old.chain op.new.chain }
+    ensures unless { result ≡ false → op.new.chain ≡ op.old.chain }
+{
+    let iv = nonce(op.spec().iv.bytes());
+    let (range, n) = (op.spec().cipher, step.tag_len());
+    let tag = read_digest(op.spec().place, n, op.chain(), digest);
+    let ciphertext = GcmOpen::new(step.key(), iv, op.spec().aad.bytes());
+    match verify_range(ciphertext, op.chain(), range, &tag[..n]) {
+        Ok(plain) => {
+            let mut plain = plain;
+            work_on(
+                &mut plain,
+                op.chain_mut(),
+                range.off as usize,
+                range.len as usize,
+            );
+            true
+        }
+        Err(BadTag) => false,
+    }
+}
+
+fn aead_work<C>(step: &AeadStep, op: &mut Op<C>, digest: &mut [u8; 64]) -> bool
+    requires { ready (asked op.old.spec (packet_of op.old.chain)) (Aead step.now.dir step.now.key step.now.tag_len step.now.aad_len) }
+    ensures works { (p : List ℕ) → worked (Aead step.now.dir step.now.key step.now.tag_len step.now.aad_len) (asked op.old.spec p) (work_of op.old.chain digest.old) ≡ outcome result (work_of op.new.chain digest.new) }
+    ensures kept { op.new ≡ with_chain op.old op.new.chain }
+    ensures written { IsWritten op.old.chain op.new.chain }
+    ensures unless { result ≡ false → op.new.chain ≡ op.old.chain }
+{
+    match step.dir() {
+        Dir::Encrypt => {
+            seal(step, op, digest);
+            true
+        }
+        Dir::Decrypt => open(step, op, digest),
+    }
+}
+
 /// One transform; false where a digest isn't the computed one.
 pub(crate) fn step_work<C>(step: &Step, op: &mut Op<C>, digest: &mut [u8; 64]) -> bool
     requires { ready (asked op.old.spec (packet_of op.old.chain)) (plain step.now) }
@@ -127,5 +237,6 @@ pub(crate) fn step_work<C>(step: &Step, op: &mut Op<C>, digest: &mut [u8; 64]) -
             true
         }
         Step::Auth(step) => auth_work(step, op, digest),
+        Step::Aead(step) => aead_work(step, op, digest),
     }
 }

@@ -30,23 +30,9 @@ both true true h = (refl, refl)
 both true false h = (refl, h)
 both false q h = cc
 
-none_found : (t : Transform) → key_fits t ≡ true → digest_fits t ≡ true → aad_len_fits t ≡ true → is_chain (t ∷ []) ≡ true
+none_found : (t : Transform) → key_fits t ≡ true → digest_fits t ≡ true → aad_len_fits t ≡ true
     → fault_of (t ∷ []) ≡ None
-none_found t k d a c = rw (k, d, a, c) refl
-
-first_alone : (t : Transform) (ts : List Transform) → is_chain (t ∷ ts) ≡ true → is_chain (t ∷ []) ≡ true
-first_alone (Cipher alg dir key) ts h = refl
-first_alone (Auth hash act key n) ts h = refl
-first_alone (Aead dir key n aad_len) ts h = cc
-
-second_alone : (t u : Transform) (ts : List Transform) → is_chain (t ∷ u ∷ ts) ≡ true → is_chain (u ∷ []) ≡ true
-second_alone t (Cipher alg dir key) ts h = refl
-second_alone t (Auth hash act key n) ts h = refl
-second_alone (Cipher alg Encrypt key) (Aead dir k n aad_len) ts h = cc
-second_alone (Cipher alg Decrypt key) (Aead dir k n aad_len) ts h = cc
-second_alone (Auth hash Generate key m) (Aead dir k n aad_len) ts h = cc
-second_alone (Auth hash Verify key m) (Aead dir k n aad_len) ts h = cc
-second_alone (Aead d key m len) (Aead dir k n aad_len) ts h = cc
+none_found t k d a = rw (k, d, a) refl
 
 no_third : (t u v : Transform) (ts : List Transform) → is_chain (t ∷ u ∷ v ∷ ts) ≡ false
 no_third (Cipher alg Encrypt key) (Cipher a d k) v ts = refl
@@ -71,9 +57,9 @@ each_alone asked (x ∷ y ∷ []) h =
     let digests = both _ _ fits.1 in
     let lens = both _ _ fits.2 in
     All-cons (λ x. fault_of (asked x ∷ []) ≡ None) x (y ∷ [])
-    (none_found (asked x) keys.0 digests.0 lens.0 (first_alone (asked x) _ fits.3))
+    (none_found (asked x) keys.0 digests.0 lens.0)
     (All-cons (λ x. fault_of (asked x ∷ []) ≡ None) y []
-    (none_found (asked y) (both _ _ keys.1).0 (both _ _ digests.1).0 (both _ _ lens.1).0 (second_alone (asked x) (asked y) _ fits.3))
+    (none_found (asked y) (both _ _ keys.1).0 (both _ _ digests.1).0 (both _ _ lens.1).0)
     (All-nil (λ x. fault_of (asked x ∷ []) ≡ None)))
 each_alone asked (x ∷ y ∷ z ∷ zs) h =
     let fits = all_hold _ _ _ _ h in

@@ -1,3 +1,4 @@
+pub mod Aead
 pub mod Auth
 pub mod Fault
 pub mod First

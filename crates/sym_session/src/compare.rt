@@ -19,6 +19,12 @@ fn is_same_step(a: &Step, b: &Step) -> bool
                 && a.key_bytes().bytes() == b.key_bytes().bytes()
                 && a.digest_len() == b.digest_len()
         }
+        (Step::Aead(a), Step::Aead(b)) => {
+            a.dir() == b.dir()
+                && a.key_bytes().bytes() == b.key_bytes().bytes()
+                && a.tag_len() == b.tag_len()
+                && a.aad_len() == b.aad_len()
+        }
         _ => false,
     }
 }

@@ -14,7 +14,7 @@ pub use compare::same;
 pub use key_bytes::KeyBytes;
 pub use refusal::MakeRefused;
 pub use session::Session;
-pub use step::{AuthStep, CipherStep, Step};
+pub use step::{AeadStep, AuthStep, CipherStep, Step};
 pub use table::{SessionTable, TableFull};
 pub use xform::Xform;
 

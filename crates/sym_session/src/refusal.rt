@@ -57,7 +57,7 @@ fn is_chain(xforms: &[Xform]) -> bool
     ensures { result ≡ is_chain (map transform_of xforms.now) }
 {
     match xforms {
-        [one] => !matches!(one, Xform::Aead { .. }),
+        [_] => true,
         [Xform::Cipher { dir, .. }, Xform::Auth { act, .. }] => {
             *dir == Dir::Encrypt && *act == Act::Generate
         }

@@ -7,6 +7,7 @@ use crate::key_bytes::KeyBytes;
 use crate::xform::Xform;
 use aes_core::Key;
 use crypto_model::{Act, CipherAlg, Dir, Hash, OutOfMemory};
+use gcm_core::GcmKey;
 use hmac_core::HmacKey;
 use std::alloc::Global;
 use std::marker::Model;
@@ -16,6 +17,7 @@ use std::marker::Model;
 pub enum Step {
     Cipher(CipherStep),
     Auth(AuthStep),
+    Aead(AeadStep),
 }
 
 impl Step {
@@ -56,7 +58,23 @@ impl Step {
                     len: *digest_len,
                 }))
             }
-            Xform::Aead { .. } => unreachable!(),
+            Xform::Aead {
+                dir,
+                key,
+                tag_len,
+                aad_len,
+            } => {
+                let Ok(expanded) = Key::expand(key.bytes()) else {
+                    unreachable!()
+                };
+                Ok(Step::Aead(AeadStep {
+                    dir: *dir,
+                    bytes: KeyBytes::copy(alloc, key.bytes())?,
+                    ready: Box::new(alloc, GcmKey::new(expanded))?,
+                    tag_len: *tag_len,
+                    aad_len: *aad_len,
+                }))
+            }
         }
     }
 
@@ -139,5 +157,66 @@ impl AuthStep {
         ensures most { result ≤ digest_size self.now.hash }
     {
         self.len
+    }
+}
+
+/// AES-GCM under a key, with a tag cut to its first bytes. Contracts see it as what was asked for: the
+/// direction, the bytes of the key, the length of the tag and that of the data that is only authenticated.
+#[derive(Drop)]
+pub struct AeadStep {
+    dir: Dir,
+    bytes: KeyBytes,
+    ready: Box<GcmKey>,
+    tag_len: usize,
+    aad_len: usize,
+}
+
+impl Model for AeadStep {
+    ghost use Rattle.std.specs.Prelude.{◌≡◌, ◌≤◌};
+    ghost use Rattle.std.specs.Box.{box_value};
+    ghost use Rattle.sym_session.specs.Aead.{AeadSpec};
+
+    ghost Value = { AeadSpec };
+
+    ghost view = { λ s. record { dir = s.dir; key = s.bytes; tag_len = s.tag_len; aad_len = s.aad_len } };
+
+    ghost invariant = { λ s. (box_value s.ready ≡ s.bytes) × (4 ≤ s.tag_len) × (s.tag_len ≤ 16) };
+}
+
+impl AeadStep {
+    pub fn dir(&self) -> Dir
+        ensures { result ≡ self.now.dir }
+    {
+        self.dir
+    }
+
+    /// The key, as GCM takes it.
+    pub fn key(&self) -> &GcmKey
+        ensures { result.now ≡ self.now.key }
+    {
+        &self.ready
+    }
+
+    /// The key as it was given.
+    pub fn key_bytes(&self) -> &KeyBytes
+        ensures { result.now ≡ self.now.key }
+    {
+        &self.bytes
+    }
+
+    /// The length of the tag, in bytes.
+    pub fn tag_len(&self) -> usize
+        ensures value { result ≡ self.now.tag_len }
+        ensures least { 4 ≤ result }
+        ensures most { result ≤ 16 }
+    {
+        self.tag_len
+    }
+
+    /// The length of the data that is only authenticated, in bytes.
+    pub fn aad_len(&self) -> usize
+        ensures { result ≡ self.now.aad_len }
+    {
+        self.aad_len
     }
 }

@@ -96,13 +96,19 @@ fn digests_have_4_bytes_to_all(rt: HostRuntime) -> Result<(), Fail> {
 fn the_first_fault_is_told(rt: HostRuntime) -> Result<(), Fail> {
     let alloc = rt.alloc();
     for (key_len, tag_len, aad_len, fault) in [
-        (17, 9, 256, MakeRefused::BadKeyLength),
-        (16, 9, 256, MakeRefused::BadDigestLength),
-        (16, 16, 256, MakeRefused::BadAadLength),
-        (16, 16, 255, MakeRefused::BadChain),
+        (17, 9, 256, Some(MakeRefused::BadKeyLength)),
+        (16, 9, 256, Some(MakeRefused::BadDigestLength)),
+        (16, 7, 0, Some(MakeRefused::BadDigestLength)),
+        (16, 11, 0, Some(MakeRefused::BadDigestLength)),
+        (16, 17, 0, Some(MakeRefused::BadDigestLength)),
+        (16, 16, 256, Some(MakeRefused::BadAadLength)),
+        (16, 16, 255, None),
+        (24, 4, 0, None),
+        (32, 8, 14, None),
+        (16, 12, 14, None),
     ] {
         let xform = aead(alloc, key_len, tag_len, aad_len)?;
-        assert_eq!(rt; refusal(alloc, &[xform]), Some(fault));
+        assert_eq!(rt; refusal(alloc, &[xform]), fault);
     }
     let short_digest = code(alloc, Hash::Sha256, Act::Generate, 20, 3)?;
     let long_key = cipher(alloc, Dir::Encrypt, 17)?;
@@ -126,6 +132,8 @@ fn other_chains_are_refused(rt: HostRuntime) -> Result<(), Fail> {
         ];
         assert_eq!(rt; refusal(alloc, &chain), Some(MakeRefused::BadChain));
     }
+    let two = [aead(alloc, 16, 16, 0)?, aead(alloc, 16, 16, 0)?];
+    assert_eq!(rt; refusal(alloc, &two), Some(MakeRefused::BadChain));
     for (act, dir) in [(generate, encrypt), (generate, decrypt), (verify, encrypt)] {
         let chain = [
             code(alloc, Hash::Sha256, act, 20, 32)?,
@@ -157,6 +165,20 @@ fn is_asked(step: &Step, xform: &Xform) -> bool {
                 && HmacKey::new(*hash, key.bytes()).ok() == Some(*step.key())
                 && step.digest_len() == *digest_len
         }
+        (
+            Step::Aead(step),
+            Xform::Aead {
+                dir,
+                key,
+                tag_len,
+                aad_len,
+            },
+        ) => {
+            step.dir() == *dir
+                && step.key_bytes().bytes() == key.bytes()
+                && step.tag_len() == *tag_len
+                && step.aad_len() == *aad_len
+        }
         _ => false,
     }
 }
@@ -182,6 +204,7 @@ fn a_session_has_the_steps_that_were_asked(rt: HostRuntime) -> Result<(), Fail> 
     for act in [Act::Generate, Act::Verify] {
         assert!(rt; is_made(alloc, &[code(alloc, Hash::Sha512, act, 131, 16)?])?);
     }
+    assert!(rt; is_made(alloc, &[aead(alloc, 32, 12, 8)?])?);
     let encrypt = cipher(alloc, Dir::Encrypt, 16)?;
     let generate = code(alloc, Hash::Sha256, Act::Generate, 20, 12)?;
     assert!(rt; is_made(alloc, &[encrypt, generate])?);

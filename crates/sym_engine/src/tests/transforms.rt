@@ -1,6 +1,6 @@
 use super::making::{
-    Asked, COUNTER, KEY, NO_RANGE, TEXT, UNDER_CTR, add, assert_op, assert_packet, cipher, code,
-    of_cipher, one_session, operation, packet,
+    Asked, COUNTER, KEY, NO_RANGE, TEXT, UNDER_CTR, add, aead, assert_op, assert_packet, cipher,
+    code, of_cipher, one_session, operation, packet,
 };
 use crate::process;
 use crypto_model::{Act, CipherAlg, DigestPlace, Dir, Range, Status};
@@ -50,7 +50,13 @@ const ENCRYPT_GENERATE: u32 = 5;
 
 const VERIFY_DECRYPT: u32 = 6;
 
-const UNKNOWN: u32 = 7;
+const SEAL: u32 = 7;
+
+const OPEN: u32 = 8;
+
+const SEAL_WITH_AAD: u32 = 9;
+
+const UNKNOWN: u32 = 10;
 
 // A session of each kind, by the numbers above. Pairs have digests of 16 bytes.
 fn sessions(alloc: Global) -> Result<SessionTable, Fail> {
@@ -65,6 +71,9 @@ fn sessions(alloc: Global) -> Result<SessionTable, Fail> {
     add(alloc, all, &[encrypt, code(alloc, Act::Generate, 16)?])?;
     let decrypt = cipher(alloc, ctr, Dir::Decrypt, KEY)?;
     add(alloc, all, &[code(alloc, Act::Verify, 16)?, decrypt])?;
+    add(alloc, all, &[aead(alloc, Dir::Encrypt, 0)?])?;
+    add(alloc, all, &[aead(alloc, Dir::Decrypt, 0)?])?;
+    add(alloc, all, &[aead(alloc, Dir::Encrypt, 4)?])?;
     Ok(table)
 }
 
@@ -232,6 +241,60 @@ fn a_forged_packet_stays_as_it_was(rt: HostRuntime) -> Result<(), Fail> {
     Ok(())
 }
 
+// Test cases 1 and 2 of the mode's first publication.
+const TAG_OF_NOTHING: u128 = 0x58e2_fcce_fa7e_3061_367f_1d57_a4e7_455a;
+
+const SEALED_ZEROS: u128 = 0x0388_dace_60b6_a392_f328_c2b9_71b2_fe78;
+
+const TAG_OF_ZEROS: u128 = 0xab6e_47d4_2cec_13bd_f53a_67b2_1257_bddf;
+
+// A tag at the head of a field of bytes 55.
+fn field_of_tag(tag: u128) -> [u8; 64] {
+    let mut field = [0x55; 64];
+    field[..16].copy_from_slice(&tag.to_be_bytes());
+    field
+}
+
+// GCM on all bytes of a packet, with the tag in the own field.
+fn of_aead(session: u32, len: u32, digest: [u8; 64]) -> Asked {
+    Asked {
+        iv_len: 12,
+        place: DigestPlace::OwnField,
+        digest,
+        ..of_cipher(session, 0, 0, len)
+    }
+}
+
+#[test]
+fn gcm_seals_and_opens(rt: HostRuntime) -> Result<(), Fail> {
+    let alloc = rt.alloc();
+    let table = sessions(alloc)?;
+    let chain = packet(alloc, &[], 0, 0)?;
+    let mut op = operation(alloc, of_aead(SEAL, 0, [0x55; 64]), chain)?;
+    process(&table, &mut op);
+    let field = field_of_tag(TAG_OF_NOTHING);
+    assert_op(&rt, &op, Status::Success, &[], &field, "no text");
+
+    let (zeros, secret) = ([0; 16], SEALED_ZEROS.to_be_bytes());
+    let field = field_of_tag(TAG_OF_ZEROS);
+    let chain = packet(alloc, &zeros, 5, 0)?;
+    let mut op = operation(alloc, of_aead(SEAL, 16, [0x55; 64]), chain)?;
+    process(&table, &mut op);
+    assert_op(&rt, &op, Status::Success, &secret, &field, "sealed");
+
+    for (tag, status, text) in [
+        (TAG_OF_ZEROS, Status::Success, zeros),
+        (TAG_OF_ZEROS ^ 1, Status::AuthFailed, secret),
+        (TAG_OF_NOTHING, Status::AuthFailed, secret),
+    ] {
+        let chain = packet(alloc, &secret, 5, 0)?;
+        let mut op = operation(alloc, of_aead(OPEN, 16, field_of_tag(tag)), chain)?;
+        process(&table, &mut op);
+        assert_op(&rt, &op, status, &text, &field_of_tag(tag), "opened");
+    }
+    Ok(())
+}
+
 #[test]
 fn each_check_refuses(rt: HostRuntime) -> Result<(), Fail> {
     let alloc = rt.alloc();
@@ -239,7 +302,20 @@ fn each_check_refuses(rt: HostRuntime) -> Result<(), Fail> {
     let ctr = of_cipher(CTR, COUNTER, 2, 16);
     let pair = of_pair(ENCRYPT_GENERATE, 20);
     let (args, session) = (Status::InvalidArgs, Status::InvalidSession);
+    let seal = of_aead(SEAL, 16, [0; 64]);
+    let in_text = DigestPlace::InChain(15);
     for (asked, status, what) in [
+        (of_aead(SEAL, 37, [0; 64]), args, "range of GCM"),
+        (Asked { iv_len: 16, ..seal }, args, "IV of 16 bytes for GCM"),
+        (of_aead(SEAL_WITH_AAD, 16, [0; 64]), args, "no data beside"),
+        (
+            Asked {
+                place: in_text,
+                ..seal
+            },
+            args,
+            "tag in the text",
+        ),
         (
             of_cipher(UNKNOWN, COUNTER, 99, 99),
             session,

@@ -17,7 +17,8 @@ loop-done-init g c = record {
   within = omega arith;
   whole = zero-mod g.M.Mode.unit;
   size = refl;
-  works = λ key iv h. (by-begin (g.M.Mode.made key iv) c.args.chain.now c.args.off c.args.len (g.met.M.Mode.made_of_nothing key iv) c.requires.inside, h);
+  counted = omega arith;
+  works = λ key iv aad h. (by-begin (g.M.Mode.made key iv) c.args.chain.now c.args.off c.args.len (g.met.M.Mode.made_of_nothing key iv) c.requires.inside, h);
 }
 
 pub take_in-done-requires-clause-inside : goal.take_in-done-requires-clause-inside
@@ -26,6 +27,9 @@ take_in-done-requires-clause-inside g c = omega (arith, c.loop-done.invariant.si
 pub take_in-done-requires-clause-whole : goal.take_in-done-requires-clause-whole
 take_in-done-requires-clause-whole g c =
     units_left c.args.len c.loop-done.done g.M.Mode.unit c.requires.whole c.loop-done.invariant.whole c.loop-done.invariant.within
+
+pub take_in-done-requires-clause-small : goal.take_in-done-requires-clause-small
+take_in-done-requires-clause-small g c = omega (arith, c.loop-done.invariant.counted, c.loop-done.invariant.within, c.requires.small)
 
 pub loop-done-preserved : goal.loop-done-preserved
 loop-done-preserved g c =
@@ -41,22 +45,23 @@ loop-done-preserved g c =
       within = omega (arith, i.within, count);
       whole = units_more done n g.M.Mode.unit i.whole count.2;
       size = ap (λ x. length (packet_of x)) w.written ∙ ap length (packet_of-with_packet c.loop-done.chain (laid_at at w.out packet) (length-laid_at at w.out packet)) ∙ length-laid_at at w.out packet ∙ i.size;
-      works = λ key iv h.
+      counted = omega (arith, i.counted, c.take_in-done.ensures.counted);
+      works = λ key iv aad h.
           let f = g.M.Mode.made key iv in
           let r = take n (drop at packet) in
-          let walked = (i.works key iv h).0 in
-          let held = w.works key iv (take done (range_at c.args.off c0)) ((i.works key iv h).1) in (
+          let walked = (i.works key iv aad h).0 in
+          let held = w.works key iv aad (take done (range_at c.args.off c0)) ((i.works key iv aad h).1) in (
             by-written f c0 c.args.off c.args.len done n r w.out c.loop-done.chain c.take_in-done.new.chain walked refl count.1 w.size i.within held.1 w.written,
-            subst (λ ys. g.M.Mode.holds key iv c.take_in-done.new.mode ys) (sym (more done n (range_at c.args.off c0) r (by-reads f c0 c.args.off c.args.len done n r c.loop-done.chain walked refl))) held.0,
+            subst (λ ys. g.M.Mode.holds key iv aad c.take_in-done.new.mode ys) (sym (more done n (range_at c.args.off c0) r (by-reads f c0 c.args.off c.args.len done n r c.loop-done.chain walked refl))) held.0,
           );
     }
 
 pub returns : goal.returns
-returns g c = λ key iv h.
+returns g c = λ key iv aad h.
     let i = c.loop-done.invariant in
     let c0 = c.args.chain.now in
     let all : c.loop-done.done ≡ c.args.len = omega (arith, i.within) in
-    let held = i.works key iv h in (
-      subst (λ k. g.M.Mode.holds key iv c.loop-done.mode (take k (range_at c.args.off c0))) all held.1,
+    let held = i.works key iv aad h in (
+      subst (λ k. g.M.Mode.holds key iv aad c.loop-done.mode (take k (range_at c.args.off c0))) all held.1,
       by-end (g.M.Mode.made key iv) c0 c.args.off c.args.len c.loop-done.done c.loop-done.chain held.0 (omega arith),
     )

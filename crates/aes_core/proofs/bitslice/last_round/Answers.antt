@@ -1,0 +1,13 @@
+use Rattle.std.proofs.Common.{◌∙◌}
+use Rattle.aes_core.specs.Planes.{turned}
+use Rattle.aes_core.proofs.Turns.{AreVectors}
+use Rattle.aes_core.proofs.Steps.{turned_vectors}
+use Rattle.aes_core.proofs.Pairs.{last_is}
+use Rattle.aes_core.proofs.bitslice.last_round.Goals as goal
+
+pub returns : goal.returns
+returns c k lk ek =
+    let v : AreVectors c.args.state.now = (c.told-state, c.are_vectors.ensures) in
+    let w = turned_vectors c.args.state.now v in
+    c.turned.ensures
+    ∙ last_is k (turned c.args.state.now) _ _ _ _ lk w.0 w.1 c.substituted.ensures c.shifted.ensures ek c.added.ensures

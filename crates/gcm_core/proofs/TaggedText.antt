@@ -1,0 +1,36 @@
+-- The tag of a ciphertext that grows.
+use Rattle.std.proofs.Common.{◌≡◌, ℕ, ◌+◌, ◌-◌, ◌*◌, ◌%◌, ◌/◌, List, ◌++◌, length, replicate, refl, ap, ◌∙◌, arith, length-append, append_assoc}
+use Rattle.std.specs.Int.{w64, to_be_bytes}
+use Rattle.std.proofs.lemmas.List.{length-replicate}
+use Rattle.crypto_model.specs.Aes.{cipher}
+use Rattle.crypto_model.specs.Modes.{xor_with, blocks}
+use Rattle.crypto_model.specs.Gcm.{bytes_of, counter_block, filled, gcm_tag, ghash_from, hashed}
+use Rattle.gcm_core.specs.Subkey.{subkey}
+
+pub filled_whole : (xs : List ℕ) → length (filled xs) % 16 ≡ 0
+unfolding filled
+filled_whole xs =
+    let more = (length xs + 15) / 16 * 16 - length xs in
+    omega (arith, length-append xs (replicate more 0), length-replicate {A = ℕ} more 0)
+
+filled-append : (xs ys : List ℕ) → length xs % 16 ≡ 0 → filled (xs ++ ys) ≡ xs ++ filled ys
+unfolding filled
+filled-append xs ys whole =
+    let count : (length (xs ++ ys) + 15) / 16 * 16 - length (xs ++ ys) ≡ (length ys + 15) / 16 * 16 - length ys = omega (arith, length-append xs ys) in
+    rw count (append_assoc xs ys (replicate ((length ys + 15) / 16 * 16 - length ys) 0))
+
+-- what is hashed: the text that was fed, its last block filled, and the two lengths
+pub hashed_is : (aad text first second : List ℕ) (m n : ℕ) → m ≡ length aad → n ≡ length text → first ≡ to_be_bytes w64 (m * 8) → second ≡ to_be_bytes w64 (n * 8)
+    → blocks (filled (filled aad ++ text) ++ first ++ second) ≡ hashed aad text
+unfolding hashed
+hashed_is aad text first second m n aad_long text_long first_is second_is =
+    rw (filled-append (filled aad) text (filled_whole aad), first_is, second_is, aad_long, text_long) refl
+
+pub hashed_whole : (xs first second : List ℕ) (m n : ℕ) → first ≡ to_be_bytes w64 m → second ≡ to_be_bytes w64 n → length (filled xs ++ first ++ second) % 16 ≡ 0
+hashed_whole xs first second m n first_is second_is =
+    omega (arith, length-append (filled xs ++ first) second, length-append (filled xs) first, filled_whole xs, ap length first_is, ap length second_is)
+
+pub tag_is : (key iv aad text mask sum tag : List ℕ) → mask ≡ cipher key (counter_block iv 1) → sum ≡ bytes_of (ghash_from (subkey key) (replicate 128 0) (hashed aad text))
+    → tag ≡ xor_with sum mask → tag ≡ gcm_tag (cipher key) iv aad text
+unfolding gcm_tag subkey
+tag_is key iv aad text mask sum tag mask_is sum_is made = made ∙ rw (sum_is, mask_is) refl

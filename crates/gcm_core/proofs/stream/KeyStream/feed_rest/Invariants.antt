@@ -1,0 +1,12 @@
+use Rattle.std.proofs.Common.{◌≡◌, ◌<◌, ◌-◌, length}
+use Rattle.gcm_core.proofs.FedPieces.{IsFedUpto}
+use Rattle.gcm_core.proofs.stream.KeyStream.feed_rest.Given as goal
+
+abbrev pub invariant-loop-at : goal.invariant-loop-at
+invariant-loop-at l = record {
+  used_up : l.at < length l.fn.piece → l.self.used ≡ 16;
+  upto : IsFedUpto l.fn.self l.self l.fn.piece l.piece l.at;
+}
+
+abbrev pub decreases-loop-at : goal.decreases-loop-at
+decreases-loop-at l = length l.initial.piece - l.at

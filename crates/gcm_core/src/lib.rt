@@ -1,0 +1,24 @@
+//! AES-GCM (SP 800-38D) with an IV of 12 bytes, over a text that comes in pieces of any length.
+//!
+//! [`GcmSeal`] encrypts a text and makes its tag. [`GcmOpen`] takes in a whole ciphertext and compares
+//! the tag; only then is there a [`GcmPlain`], which decrypts the ciphertext in a second walk.
+//! A clause sees a [`GcmKey`] as the key's bytes. `IsSealed`, `IsAbsorbed` and `IsOpened` say which text
+//! a state has taken in so far, and `gcm_text` and `gcm_tag` are the standard's, on whole texts.
+#![tactic(auto)]
+
+mod blocks;
+mod hash;
+mod key;
+mod opening;
+mod seal;
+mod stream;
+mod table;
+mod tag;
+mod xor;
+
+pub use key::GcmKey;
+pub use opening::{BadTag, GcmOpen, GcmPlain};
+pub use seal::GcmSeal;
+
+#[cfg(test)]
+mod tests;

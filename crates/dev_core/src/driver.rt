@@ -6,10 +6,10 @@ ghost use Rattle.std.specs.Arc.{arc_value};
 
 use crate::Stats;
 use crypto_model::SessId;
-use sym_session::SessionTable;
 use crypto_op::OpBurst;
 use std::alloc::{AllocError, Global};
 use std::sync::Arc;
+use sym_session::SessionTable;
 use thiserror::Error;
 
 /// What a log tells of an operation that was taken.

@@ -1,0 +1,14 @@
+pub mod Again
+pub mod Choices
+pub mod Cuts
+pub mod Faultless
+pub mod Keys
+pub mod Leads
+pub mod Lines
+pub mod Normal
+pub mod Parts
+pub mod RoundTrip
+pub mod RuleLines
+pub mod SessionLines
+pub mod Values
+pub mod Words

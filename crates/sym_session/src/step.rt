@@ -1,6 +1,7 @@
 //! Transforms with their keys made ready.
-ghost use Rattle.std.specs.Prelude.{◌≡◌, ◌≤◌, [], ◌∷◌, None, IfOk, map};
+ghost use Rattle.std.specs.Prelude.{◌≡◌, ◌≤◌, [], ◌∷◌, None, IfOk, IsTrue, length, map};
 ghost use Rattle.crypto_model.specs.Hmac.{digest_size};
+ghost use Rattle.crypto_model.specs.Session.{is_aes_length};
 ghost use Rattle.hmac_core.specs.States.{IsKeyOf};
 
 use crate::key_bytes::KeyBytes;
@@ -20,6 +21,26 @@ pub enum Step {
     Aead(AeadStep),
 }
 
+fn expanded(key: &KeyBytes) -> Key
+    requires { IsTrue (is_aes_length (length key.now)) }
+    ensures { result ≡ key.now }
+{
+    match Key::expand(key.bytes()) {
+        Ok(key) => key,
+        Err(_) => unreachable!(),
+    }
+}
+
+fn code_key(hash: Hash, key: &KeyBytes) -> HmacKey
+    requires { (1 ≤ length key.now) × (length key.now ≤ 1024) }
+    ensures { IsKeyOf hash key.now result }
+{
+    match HmacKey::new(hash, key.bytes()) {
+        Ok(key) => key,
+        Err(_) => unreachable!(),
+    }
+}
+
 impl Step {
     ghost use Rattle.sym_session.specs.Xform.{transform_of};
     ghost use Rattle.sym_session.specs.Fault.{fault_of};
@@ -31,50 +52,35 @@ impl Step {
         ensures { IfOk result (λ step. plain step ≡ transform_of xform.now) }
     {
         match xform {
-            Xform::Cipher { alg, dir, key } => {
-                let Ok(key) = Key::expand(key.bytes()) else {
-                    unreachable!()
-                };
-                Ok(Step::Cipher(CipherStep {
-                    alg: *alg,
-                    dir: *dir,
-                    key,
-                }))
-            }
+            Xform::Cipher { alg, dir, key } => Ok(Step::Cipher(CipherStep {
+                alg: *alg,
+                dir: *dir,
+                key: expanded(key),
+            })),
             Xform::Auth {
                 hash,
                 act,
                 key,
                 digest_len,
-            } => {
-                let Ok(ready) = HmacKey::new(*hash, key.bytes()) else {
-                    unreachable!()
-                };
-                Ok(Step::Auth(AuthStep {
-                    hash: *hash,
-                    act: *act,
-                    bytes: KeyBytes::copy(alloc, key.bytes())?,
-                    ready,
-                    len: *digest_len,
-                }))
-            }
+            } => Ok(Step::Auth(AuthStep {
+                hash: *hash,
+                act: *act,
+                bytes: KeyBytes::copy(alloc, key.bytes())?,
+                ready: code_key(*hash, key),
+                len: *digest_len,
+            })),
             Xform::Aead {
                 dir,
                 key,
                 tag_len,
                 aad_len,
-            } => {
-                let Ok(expanded) = Key::expand(key.bytes()) else {
-                    unreachable!()
-                };
-                Ok(Step::Aead(AeadStep {
-                    dir: *dir,
-                    bytes: KeyBytes::copy(alloc, key.bytes())?,
-                    ready: Box::new(alloc, GcmKey::new(expanded))?,
-                    tag_len: *tag_len,
-                    aad_len: *aad_len,
-                }))
-            }
+            } => Ok(Step::Aead(AeadStep {
+                dir: *dir,
+                bytes: KeyBytes::copy(alloc, key.bytes())?,
+                ready: Box::new(alloc, GcmKey::new(expanded(key)))?,
+                tag_len: *tag_len,
+                aad_len: *aad_len,
+            })),
         }
     }
 

@@ -1,24 +1,32 @@
 -- How each way out of a run meets what is said of the run.
 use Rattle.std.proofs.Common.{◌≡◌, ◌⊎◌, inl, inr, ℕ, Bool, true, false, ◌+◌, ◌<◌, ◌≤◌, List, [], ◌∷◌, ◌++◌, length, take, drop, refl, ◌∙◌, ap, sym, subst, arith, append_assoc, length-append, length-take, length-drop}
+use Rattle.std.specs.Prelude.{Option, None, Some, option_map}
 use Rattle.std.proofs.lemmas.List.{append-nil, take_all, take-append-le, take-append-drop}
 use Rattle.std.proofs.lemmas.List.Concat.{flat_map-append}
 use Rattle.std.proofs.Math.Seq.{take-append-add, take-append_seam}
 use Rattle.std.specs.List.{flat_map}
-use Rattle.crypto_op.specs.declared.spec.Card.{Card}
-use Rattle.sym_engine.specs.declared.plain.PlainDriver.{PlainDriver}
+use Rattle.crypto_model.specs.Counts.{capped}
+use Rattle.dev_core.specs.declared.driver.LogEntry.{LogEntry}
 use Rattle.capture_io.specs.declared.header.Header.{Header}
 use Rattle.capture_io.specs.declared.header.ReadStop.{ReadStop}
 use Rattle.capture_io.specs.declared.header.ReadStop.TheVariants.{Fault, BadCapture, OutOfMemory}
-use Rattle.capture_io.specs.Capture.{Rec, Rest, End, Bad, Large, Holds, header_bytes, spelled}
+use Rattle.capture_io.specs.Capture.{Rec, Rest, Reading, NoHeader, Holds, header_bytes, spelled}
 use Rattle.capture_io.specs.Pieces.{AppendsPart}
-use Rattle.capcrypt.specs.declared.command.Quick.{Quick}
+use Rattle.session_file.specs.declared.plan.Plan.{Plan}
+use Rattle.packet_plan.specs.Asked.{sessions_of}
+use Rattle.packet_plan.specs.Answered.{Answered, answered_from}
+use Rattle.packet_flow.specs.declared.flow.FlowEnd.{FlowEnd}
+use Rattle.packet_flow.specs.declared.flow.FlowEnd.TheVariants as flow
+use Rattle.packet_flow.specs.Counts.{counts_of}
+use Rattle.packet_flow.specs.Entries.{entries_from}
+use Rattle.packet_flow.specs.Flowed.{CutAt, EndsWhole, Flowed, IsWholeFlow, IsWrittenBy, answer_bytes}
+use Rattle.packet_flow.specs.Reads.{ReadsAs}
 use Rattle.capcrypt.specs.declared.ending.Outcome.{Outcome}
 use Rattle.capcrypt.specs.declared.ending.Ending.{Ending}
-use Rattle.capcrypt.specs.declared.ending.Ending.TheVariants.{Done, Memory, Usage, Capture, ReadFault, WriteFault, TooLarge}
-use Rattle.capcrypt.specs.Quick.{ctr_session, Begins}
-use Rattle.capcrypt.specs.Packet.{Answered, answered_from}
-use Rattle.capcrypt.specs.Written.{raised, answer_bytes, counts_of, ending_at}
-use Rattle.capcrypt.specs.Ran.{Job, IsWritten, IsDecided, IsUsed, HasServed, CutAt, AppendsUpto, ReadsAs, stop_ending}
+use Rattle.capcrypt.specs.declared.ending.Ending.TheVariants.{Done, Memory, Usage, Vdev, Capture, Sessions, ReadFault, WriteFault, Stalled, TooLarge}
+use Rattle.capcrypt.specs.Start.{Start, Begins, Stops}
+use Rattle.capcrypt.specs.Written.{raised, ending_at}
+use Rattle.capcrypt.specs.Ran.{Job, IsWritten, IsDecided, DeviceNow, HasServed, ServesFront, AppendsRecords, AppendsUpto, flow_ending}
 
 -- no record is empty
 length-spelled : (big : Bool) (x : ℕ) → length (spelled big 4 x) ≡ 4
@@ -66,18 +74,24 @@ more_bytes big answers head n within = by_rest (drop n answers) refl
           length-append head (flat_map (answer_bytes big) (take (n + 1) answers)),
         ))
 
-module _ (q : Quick) (h : Header) (rs : List Rec) (rest : Rest) (o : Outcome) (old new : List ℕ) (before after : PlainDriver Card) where
+-- length of answers
+length-answered_from : (plan : Plan) (n : ℕ) (rs : List Rec) → length (answered_from plan n rs) ≡ length rs
+unfolding answered_from
+length-answered_from plan n [] = refl
+length-answered_from plan n (r ∷ rs) = omega (arith, length-answered_from plan (n + 1) rs)
+
+module _ (plan : Plan) (h : Header) (rs : List Rec) (rest : Rest) (old new : List ℕ) where
   abbrev head : List ℕ
   head = header_bytes (raised h)
 
   abbrev answers : List Answered
-  answers = answered_from (ctr_session q.key ∷ []) q.salt 0 rs
+  answers = answered_from plan 0 rs
 
   abbrev body : List ℕ
   body = flat_map (answer_bytes h.big) answers
 
   -- a front of the header alone
-  header_front : (k : ℕ) → k ≤ length head → new ≡ old ++ take k head → AppendsUpto (Begins q) (Holds h rs rest) 0 old new
+  header_front : (k : ℕ) → k ≤ length head → new ≡ old ++ take k head → AppendsUpto (Begins plan) (Holds h rs rest) 0 old new
   header_front k fits front = record {
     k = k;
     front = front ∙ ap (λ (l : List ℕ). old ++ l) (sym (take-append-le k head body fits));
@@ -89,34 +103,14 @@ module _ (q : Quick) (h : Header) (rs : List Rec) (rest : Rest) (o : Outcome) (o
   }
 
   -- the header alone, or less
-  pub header_cut : AppendsPart old new head → AppendsUpto (Begins q) (Holds h rs rest) 0 old new
+  pub header_cut : AppendsPart old new head → AppendsUpto (Begins plan) (Holds h rs rest) 0 old new
   header_cut part = header_front part.0 (omega (arith, part.1)) part.2
-
-  pub header_alone : new ≡ old ++ head → AppendsUpto (Begins q) (Holds h rs rest) 0 old new
-  header_alone wrote = header_front (length head) (omega arith) (wrote ∙ ap (λ (l : List ℕ). old ++ l) (sym (take_all (length head) head (omega arith))))
-
-  -- no record was written, and the run ended so
-  pub none_written : (e : Ending) → (IsDecided e → ⊥) → o.ending ≡ e → o.counts ≡ counts_of [] → IsWritten e (Begins q) (Holds h rs rest) 0 old new
-      → IsUsed (Begins q) (Holds h rs rest) before after → Job (Begins q) (Holds h rs rest) o old new before after
-  none_written e undecided ending counts written used = record {
-    n = 0;
-    within = omega arith;
-    counts = counts;
-    written = subst (λ (x : Ending). IsWritten x (Begins q) (Holds h rs rest) 0 old new) (sym ending) written;
-    device = used;
-    decided = λ d. absurd (undecided (subst IsDecided ending d));
-  }
-
-  pub reading_failed : o.ending ≡ ReadFault → o.counts ≡ counts_of [] → new ≡ old ++ head → IsUsed (Begins q) (Holds h rs rest) before after
-      → Job (Begins q) (Holds h rs rest) o old new before after
-  reading_failed ending counts wrote used =
-      none_written ReadFault (λ d. d) ending counts (inr (wrote ∙ ap (λ (l : List ℕ). old ++ l) (sym (append-nil head)))) used
 
   cut_inside : (n : ℕ) → CutAt h.big answers n (old ++ head) new → n < length answers
   cut_inside n cut = omega (arith, ap length cut.split, length-append (take n answers) (cut.next ∷ cut.others), length-take n answers)
 
   -- the records, but not all of them
-  records_cut : (n : ℕ) → CutAt h.big answers n (old ++ head) new → AppendsUpto (Begins q) (Holds h rs rest) n old new
+  records_cut : (n : ℕ) → CutAt h.big answers n (old ++ head) new → AppendsUpto (Begins plan) (Holds h rs rest) n old new
   records_cut n cut =
       let front = flat_map (answer_bytes h.big) (take n answers) in
       let one = answer_bytes h.big cut.next in
@@ -136,7 +130,7 @@ module _ (q : Quick) (h : Header) (rs : List Rec) (rest : Rest) (o : Outcome) (o
       }
 
   -- all of the records
-  all_front : (n : ℕ) → n ≡ length answers → new ≡ old ++ (head ++ body) → AppendsUpto (Begins q) (Holds h rs rest) n old new
+  all_front : (n : ℕ) → n ≡ length answers → new ≡ old ++ (head ++ body) → AppendsUpto (Begins plan) (Holds h rs rest) n old new
   all_front n count wrote = record {
     k = length (head ++ body);
     front = wrote ∙ ap (λ (l : List ℕ). old ++ l) (sym (take_all (length (head ++ body)) (head ++ body) (omega arith)));
@@ -144,12 +138,12 @@ module _ (q : Quick) (h : Header) (rs : List Rec) (rest : Rest) (o : Outcome) (o
     no_more = inl count;
   }
 
-  nothing_front : (n : ℕ) → n ≡ 0 → new ≡ old → AppendsUpto (Begins q) (Holds h rs rest) n old new
+  nothing_front : (n : ℕ) → n ≡ 0 → new ≡ old → AppendsUpto (Begins plan) (Holds h rs rest) n old new
   nothing_front n none same =
       rw none (header_front 0 (omega arith) (same ∙ sym (append-nil old)))
 
   -- n records, and nothing of the next
-  records_front : (n : ℕ) → n ≤ length answers → new ≡ old ++ (head ++ flat_map (answer_bytes h.big) (take n answers)) → AppendsUpto (Begins q) (Holds h rs rest) n old new
+  records_front : (n : ℕ) → n ≤ length answers → new ≡ old ++ (head ++ flat_map (answer_bytes h.big) (take n answers)) → AppendsUpto (Begins plan) (Holds h rs rest) n old new
   records_front n within wrote =
       let front = flat_map (answer_bytes h.big) (take n answers) in
       let behind = flat_map (answer_bytes h.big) (drop n answers) in
@@ -163,80 +157,206 @@ module _ (q : Quick) (h : Header) (rs : List Rec) (rest : Rest) (o : Outcome) (o
         no_more = more_bytes h.big answers head n within;
       }
 
-  pub records_failed : (n : ℕ) → o.ending ≡ WriteFault → o.counts ≡ counts_of (take n answers) → CutAt h.big answers n (old ++ head) new
-      → IsUsed (Begins q) (Holds h rs rest) before after → Job (Begins q) (Holds h rs rest) o old new before after
-  records_failed n ending counts cut used = record {
-    n = n;
-    within = let inside = cut_inside n cut in omega arith;
-    counts = counts;
-    written = subst (λ (x : Ending). IsWritten x (Begins q) (Holds h rs rest) n old new) (sym ending) (records_cut n cut);
-    device = used;
-    decided = λ d. absurd (subst IsDecided ending d);
-  }
+  -- what stands where all was written
+  all_written : (n : ℕ) → n ≡ length rs → new ≡ (old ++ head) ++ flat_map (answer_bytes h.big) (take n answers) → new ≡ old ++ (head ++ body)
+  all_written n count wrote =
+      let all : take n answers ≡ answers = take_all n answers (omega (arith, length-answered_from plan 0 rs)) in
+      wrote ∙ ap (λ (l : List Answered). (old ++ head) ++ flat_map (answer_bytes h.big) l) all ∙ append_assoc old head body
 
-  -- all was read and written
-  written_all : (e : Ending) (n : ℕ) → IsDecided e → new ≡ (old ++ head) ++ body → IsWritten e (Begins q) (Holds h rs rest) n old new
-  written_all Memory n d wrote = absurd d
-  written_all ReadFault n d wrote = absurd d
-  written_all WriteFault n d wrote = absurd d
-  written_all Done n d wrote = wrote ∙ append_assoc old head body
-  written_all Usage n d wrote = wrote ∙ append_assoc old head body
-  written_all (Capture at cause) n d wrote = wrote ∙ append_assoc old head body
-  written_all (TooLarge value) n d wrote = wrote ∙ append_assoc old head body
+  -- by how the flow ended, and by why the reading stopped
+  stop_written : (stop : ReadStop) (n : ℕ) → n ≤ length rs → (IsDecided (flow_ending (flow.Stopped stop)) → n ≡ length rs)
+      → new ≡ (old ++ head) ++ flat_map (answer_bytes h.big) (take n answers) → IsWritten (flow_ending (flow.Stopped stop)) (Begins plan) (Holds h rs rest) n old new
+  stop_written ReadStop.End n within all wrote = all_written n (all tt) wrote
+  stop_written (BadCapture at cause) n within all wrote = all_written n (all tt) wrote
+  stop_written (ReadStop.TooLarge value) n within all wrote = all_written n (all tt) wrote
+  stop_written Fault n within all wrote = inr (wrote ∙ append_assoc old head (flat_map (answer_bytes h.big) (take n answers)))
+  stop_written OutOfMemory n within all wrote =
+      records_front n (omega (arith, within, length-answered_from plan 0 rs)) (wrote ∙ append_assoc old head (flat_map (answer_bytes h.big) (take n answers)))
 
-  pub all_done : (n : ℕ) → o.ending ≡ ending_at rest → IsDecided (ending_at rest) → o.header ≡ true → n ≡ length answers → o.counts ≡ counts_of answers
-      → new ≡ (old ++ head) ++ body → HasServed (ctr_session q.key) (length rs) after → Job (Begins q) (Holds h rs rest) o old new before after
-  all_done n ending can header count counts wrote served =
-      let all : take n answers ≡ answers = take_all n answers (omega arith) in
+  flow_written : (end : FlowEnd) (n : ℕ) → n ≤ length rs → (IsDecided (flow_ending end) → n ≡ length rs) → IsWrittenBy end h.big answers n (old ++ head) new
+      → IsWritten (flow_ending end) (Begins plan) (Holds h rs rest) n old new
+  flow_written (flow.Stopped stop) n within all wrote = stop_written stop n within all wrote
+  flow_written flow.WriteFault n within all cut = records_cut n cut
+  flow_written flow.Stalled n within all wrote = inr (wrote ∙ append_assoc old head (flat_map (answer_bytes h.big) (take n answers)))
+  flow_written flow.OutOfMemory n within all wrote =
+      records_front n (omega (arith, within, length-answered_from plan 0 rs)) (wrote ∙ append_assoc old head (flat_map (answer_bytes h.big) (take n answers)))
+
+-- a decided end is that of the whole capture
+module _ (plan : Plan) (rs : List Rec) (rest : Rest) (n : ℕ) (taken : List LogEntry) where
+  whole_end : (stop : ReadStop) → IsDecided (flow_ending (flow.Stopped stop)) → EndsWhole (flow.Stopped stop)
+  whole_end ReadStop.End d = tt
+  whole_end (BadCapture at cause) d = tt
+  whole_end (ReadStop.TooLarge value) d = tt
+  whole_end Fault d = absurd d
+  whole_end OutOfMemory d = absurd d
+
+  pub decided_whole : (end : FlowEnd) → IsDecided (flow_ending end) → EndsWhole end
+  decided_whole (flow.Stopped stop) d = whole_end stop d
+  decided_whole flow.WriteFault d = absurd d
+  decided_whole flow.Stalled d = absurd d
+  decided_whole flow.OutOfMemory d = absurd d
+
+  stop_at : (stop : ReadStop) → IsDecided (flow_ending (flow.Stopped stop)) → ReadsAs rs stop rs rest → flow_ending (flow.Stopped stop) ≡ ending_at rest
+  stop_at ReadStop.End d is = ap ending_at (sym is.1)
+  stop_at (BadCapture at cause) d is = ap ending_at (sym is.1)
+  stop_at (ReadStop.TooLarge value) d is = ap ending_at (sym is.1)
+  stop_at Fault d is = absurd d
+  stop_at OutOfMemory d is = absurd d
+
+  pub ends_at : (end : FlowEnd) → IsDecided (flow_ending end) → IsWholeFlow plan rs rest end n taken → flow_ending end ≡ ending_at rest
+  ends_at (flow.Stopped stop) d w = stop_at stop d w.stop
+  ends_at flow.WriteFault d w = absurd d
+  ends_at flow.Stalled d w = absurd d
+  ends_at flow.OutOfMemory d w = absurd d
+
+module _ (plan : Plan) (h : Header) (rs : List Rec) (rest : Rest) (o : Outcome) (old base new : List ℕ) (log : Option (List LogEntry)) (d : DeviceNow) where
+  -- no operation was taken yet
+  pub none_taken : d.depth ≡ 128 → d.sessions ≡ sessions_of plan → d.enqueued ≡ 0 → d.log ≡ option_map (λ l. []) log → ServesFront (Begins plan) (Holds h rs rest) log d
+  none_taken depth sessions enqueued logged = (0, record { depth = depth; sessions = sessions; enqueued = enqueued; log = logged })
+
+  -- the header could not be written
+  pub header_failed : o ≡ record { ending = WriteFault; counts = counts_of []; header = true } → AppendsPart old new (header_bytes (raised h)) → ServesFront (Begins plan) (Holds h rs rest) log d
+      → Job (Begins plan) (Holds h rs rest) o old new ⊥ log d
+  header_failed is part served = rw is (record {
+    n = 0;
+    within = omega arith;
+    counts = refl;
+    written = header_cut plan h rs rest old new part;
+    device = inr served;
+    stalled = λ e. absurd (let no : WriteFault ≡ Stalled = e in cc);
+    decided = λ no. absurd no;
+  })
+
+  -- the packets flowed, to this end
+  pub flowed : (end : FlowEnd) (taken : List LogEntry) → d.depth ≡ 128 → d.sessions ≡ sessions_of plan → base ≡ old ++ header_bytes (raised h) → o.ending ≡ flow_ending end → o.header ≡ true
+      → d.enqueued ≡ capped (length taken) → d.log ≡ option_map (λ l. taken) log → Flowed plan h.big rs rest end o.counts base new taken
+      → Job (Begins plan) (Holds h rs rest) o old new ⊥ log d
+  flowed end taken depth sessions wrote ending header enqueued logged f =
+      let e = entries_from plan 0 rs in
+      let served : HasServed plan taken log d = record { depth = depth; sessions = sessions; enqueued = enqueued; log = logged } in
+      let front : ServesFront (Begins plan) (Holds h rs rest) log d = (f.k, subst (λ (l : List LogEntry). HasServed plan l log d) f.front served) in
+      let all : IsDecided (flow_ending end) → f.n ≡ length rs = λ x. (f.whole (decided_whole plan rs rest f.n taken end x)).records in
       record {
-        n = n;
-        within = omega arith;
-        counts = counts ∙ ap counts_of (sym all);
-        written = written_all o.ending n (subst IsDecided (sym ending) can) wrote;
-        device = inr (length rs, omega arith, served);
-        decided = λ d. record { ending = ending; records = count; header = header; device = served };
+        n = f.n;
+        within = omega (arith, f.within, length-answered_from plan 0 rs);
+        counts = f.counts_are;
+        written = subst (λ (x : Ending). IsWritten x (Begins plan) (Holds h rs rest) f.n old new) (sym ending)
+            (flow_written plan h rs rest old new end f.n f.within all (subst (λ (l : List ℕ). IsWrittenBy end h.big (answered_from plan 0 rs) f.n l new) wrote f.written));
+        device = inr front;
+        stalled = λ x. front;
+        decided = λ x.
+            let known : IsDecided (flow_ending end) = subst IsDecided ending x in
+            let w = f.whole (decided_whole plan rs rest f.n taken end known) in
+            record {
+              ending = ending ∙ ends_at plan rs rest f.n taken end known w;
+              records = w.records ∙ sym (length-answered_from plan 0 rs);
+              header = header;
+              device = subst (λ (l : List LogEntry). HasServed plan l log d) w.taken served;
+            };
       }
 
 -- the same run, whose sink could not be flushed
-module _ (q : Quick) (h : Header) (rs : List Rec) (rest : Rest) (o o' : Outcome) (old new : List ℕ) (before after : PlainDriver Card) where
+module _ (plan : Plan) (h : Header) (rs : List Rec) (rest : Rest) (o o' : Outcome) (old new : List ℕ) (unused : Type 0) (log : Option (List LogEntry)) (d : DeviceNow) where
   abbrev count : ℕ
-  count = length (answered_from (ctr_session q.key ∷ []) q.salt 0 rs)
+  count = length (answered_from plan 0 rs)
 
-  upto_of : (e : Ending) (n : ℕ) → n ≤ count → (IsDecided e → n ≡ count) → IsWritten e (Begins q) (Holds h rs rest) n old new → AppendsUpto (Begins q) (Holds h rs rest) n old new
+  upto_records : (n : ℕ) → n ≤ count → AppendsRecords (Begins plan) (Holds h rs rest) n old new → AppendsUpto (Begins plan) (Holds h rs rest) n old new
+  upto_records n within written = elim written [
+    | inl nothing ↦ nothing_front plan h rs rest old new n nothing.1 nothing.0
+    | inr some ↦ records_front plan h rs rest old new n within some
+  ]
+
+  upto_of : (e : Ending) (n : ℕ) → n ≤ count → (IsDecided e → n ≡ count) → IsWritten e (Begins plan) (Holds h rs rest) n old new → AppendsUpto (Begins plan) (Holds h rs rest) n old new
   upto_of Memory n within all written = written
   upto_of WriteFault n within all written = written
-  upto_of ReadFault n within all written = elim written [
-    | inl nothing ↦ nothing_front q h rs rest o old new before after n nothing.1 nothing.0
-    | inr some ↦ records_front q h rs rest o old new before after n within some
-  ]
-  upto_of Done n within all written = all_front q h rs rest o old new before after n (all tt) written
-  upto_of Usage n within all written = all_front q h rs rest o old new before after n (all tt) written
-  upto_of (Capture at cause) n within all written = all_front q h rs rest o old new before after n (all tt) written
-  upto_of (TooLarge value) n within all written = all_front q h rs rest o old new before after n (all tt) written
+  upto_of ReadFault n within all written = upto_records n within written
+  upto_of Stalled n within all written = upto_records n within written
+  upto_of Done n within all written = all_front plan h rs rest old new n (all tt) written
+  upto_of Usage n within all written = all_front plan h rs rest old new n (all tt) written
+  upto_of (Vdev at) n within all written = all_front plan h rs rest old new n (all tt) written
+  upto_of (Capture at cause) n within all written = all_front plan h rs rest old new n (all tt) written
+  upto_of (Sessions line kind) n within all written = all_front plan h rs rest old new n (all tt) written
+  upto_of (TooLarge value) n within all written = all_front plan h rs rest old new n (all tt) written
 
-  pub flush_failed : Job (Begins q) (Holds h rs rest) o old new before after → o' ≡ record o { ending = WriteFault } → Job (Begins q) (Holds h rs rest) o' old new before after
+  pub flush_failed : Job (Begins plan) (Holds h rs rest) o old new unused log d → o' ≡ record o { ending = WriteFault } → Job (Begins plan) (Holds h rs rest) o' old new unused log d
   flush_failed job is =
       let ending : o'.ending ≡ WriteFault = ap (λ (x : Outcome). x.ending) is in
       record {
         n = job.n;
         within = job.within;
         counts = ap (λ (x : Outcome). x.counts) is ∙ job.counts;
-        written = subst (λ (e : Ending). IsWritten e (Begins q) (Holds h rs rest) job.n old new) (sym ending)
-            (upto_of o.ending job.n job.within (λ d. (job.decided d).records) job.written);
+        written = subst (λ (e : Ending). IsWritten e (Begins plan) (Holds h rs rest) job.n old new) (sym ending)
+            (upto_of o.ending job.n job.within (λ x. (job.decided x).records) job.written);
         device = job.device;
-        decided = λ d. absurd (subst IsDecided ending d);
+        stalled = λ x. absurd (let no : WriteFault ≡ Stalled = sym ending ∙ x in cc);
+        decided = λ x. absurd (subst IsDecided ending x);
       }
 
-decided_at : (rest : Rest) → IsDecided (ending_at rest)
-decided_at End = tt
-decided_at (Bad at cause) = tt
-decided_at (Large value) = tt
+map_twice : {X : Type 0} (x y : X) (o : Option X) → option_map (λ a. x) (option_map (λ a. y) o) ≡ option_map (λ a. x) o
+map_twice x y None = refl
+map_twice x y (Some a) = refl
 
--- a stop that is no fault says all of the records and the rest
-pub read_whole : (so_far : List Rec) (stop : ReadStop) (rs : List Rec) (rest : Rest) → IsDecided (stop_ending stop) → ReadsAs so_far stop rs rest
-    → (rs ≡ so_far) × (stop_ending stop ≡ ending_at rest) × IsDecided (ending_at rest)
-read_whole so_far ReadStop.End rs rest d reads = (reads.0, ap ending_at (sym reads.1), decided_at rest)
-read_whole so_far (BadCapture at cause) rs rest d reads = (reads.0, ap ending_at (sym reads.1), decided_at rest)
-read_whole so_far (ReadStop.TooLarge value) rs rest d reads = (reads.0, ap ending_at (sym reads.1), decided_at rest)
-read_whole so_far Fault rs rest d reads = absurd d
-read_whole so_far OutOfMemory rs rest d reads = absurd d
+-- what the log told before it was emptied
+served_before : (plan : Plan) (taken : List LogEntry) (log emptied : Option (List LogEntry)) (d : DeviceNow) → emptied ≡ option_map (λ l. []) log
+    → HasServed plan taken emptied d → HasServed plan taken log d
+served_before plan taken log emptied d is s = record {
+  depth = s.depth;
+  sessions = s.sessions;
+  enqueued = s.enqueued;
+  log = s.log ∙ ap (option_map (λ l. taken)) is ∙ map_twice taken [] log;
+}
+
+-- the device was set up first, which emptied its log
+pub set_up_first : (plan : Plan) (h : Header) (rs : List Rec) (rest : Rest) (o : Outcome) (old new : List ℕ) (unused : Type 0) (log emptied : Option (List LogEntry)) (d : DeviceNow)
+    → emptied ≡ option_map (λ l. []) log → Job (Begins plan) (Holds h rs rest) o old new ⊥ emptied d → Job (Begins plan) (Holds h rs rest) o old new unused log d
+set_up_first plan h rs rest o old new unused log emptied d is job =
+    let front : ServesFront (Begins plan) (Holds h rs rest) emptied d → ServesFront (Begins plan) (Holds h rs rest) log d = λ s.
+    (s.0, served_before plan (take s.0 (entries_from plan 0 rs)) log emptied d is s.1) in
+    record {
+      n = job.n;
+      within = job.within;
+      counts = job.counts;
+      written = job.written;
+      device = elim job.device [ inl none ↦ absurd none | inr served ↦ inr (front served) ];
+      stalled = λ x. front (job.stalled x);
+      decided = λ x.
+          let w = job.decided x in
+          record {
+            ending = w.ending;
+            records = w.records;
+            header = w.header;
+            device = served_before plan (entries_from plan 0 rs) log emptied d is w.device;
+          };
+    }
+
+-- ---- a run that ended before the capture was read
+
+not_yet : (start : Start) (reading : Reading) (old : List ℕ) → AppendsUpto start reading 0 old old
+not_yet (Begins plan) (Holds h rs rest) old = nothing_front plan h rs rest old old 0 refl refl
+not_yet (Begins plan) (NoHeader at cause) old = record { k = 0; front = sym (append-nil old); whole = inl refl; no_more = inl refl }
+not_yet (Stops e) reading old = record { k = 0; front = sym (append-nil old); whole = inl refl; no_more = inl refl }
+
+stopped_written : (e : Ending) (start : Start) (reading : Reading) (old : List ℕ) → (IsDecided e → start ≡ Stops e) → IsWritten e start reading 0 old old
+stopped_written Memory start reading old is = not_yet start reading old
+stopped_written WriteFault start reading old is = not_yet start reading old
+stopped_written ReadFault start reading old is = inl (refl, refl)
+stopped_written Stalled start reading old is = inl (refl, refl)
+stopped_written Done start reading old is = let same : start ≡ Stops Done = is tt in rw same (sym (append-nil old))
+stopped_written Usage start reading old is = let same : start ≡ Stops Usage = is tt in rw same (sym (append-nil old))
+stopped_written (Vdev at) start reading old is = let same : start ≡ Stops (Vdev at) = is tt in rw same (sym (append-nil old))
+stopped_written (Capture at cause) start reading old is = let same : start ≡ Stops (Capture at cause) = is tt in rw same (sym (append-nil old))
+stopped_written (Sessions line kind) start reading old is = let same : start ≡ Stops (Sessions line kind) = is tt in rw same (sym (append-nil old))
+stopped_written (TooLarge value) start reading old is = let same : start ≡ Stops (TooLarge value) = is tt in rw same (sym (append-nil old))
+
+pub not_begun : (e : Ending) (start : Start) (reading : Reading) (o : Outcome) (old : List ℕ) (unused : Type 0) (log : Option (List LogEntry)) (d : DeviceNow)
+    → (IsDecided e → start ≡ Stops e) → (e ≡ Stalled → ⊥) → o ≡ record { ending = e; counts = counts_of []; header = false } → unused
+    → Job start reading o old old unused log d
+not_begun e start reading o old unused log d is never same idle = rw same (record {
+  n = 0;
+  within = omega arith;
+  counts = refl;
+  written = stopped_written e start reading old is;
+  device = inl idle;
+  stalled = λ x. absurd (never x);
+  decided = λ x. let stops = is x in rw stops (record { ending = refl; records = refl; header = refl; device = tt });
+})

@@ -1,7 +1,4 @@
-pub mod OneOperation
-pub mod TwoParts
-pub mod Fronts
-pub mod WholeReading
-pub mod RecordLoop
-pub mod Jobs
-pub mod Finished
+mod Fronts
+mod Jobs
+mod Told
+mod TwoParts

@@ -1,5 +1,4 @@
-pub mod Quick
-pub mod Packet
+pub mod Start
 pub mod Written
 pub mod Report
 pub mod Ran

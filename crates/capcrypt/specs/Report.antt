@@ -2,18 +2,21 @@
 use Rattle.std.specs.Prelude.{◌+◌, ◌&&◌, ℕ, Bool, true, false, List, [], ◌∷◌, ◌++◌, codes, decimal, if◌then◌else◌}
 use Rattle.capture_io.specs.declared.header.CaptureCause.{CaptureCause}
 use Rattle.capture_io.specs.declared.header.CaptureCause.TheVariants.{ShortHeader, BadMagic, BadVersion, ShortRecord, ShortData, FormNotBuilt}
-use Rattle.capcrypt.specs.declared.ending.Counts.{Counts}
+use Rattle.packet_flow.specs.declared.counts.Counts.{Counts}
 use Rattle.capcrypt.specs.declared.ending.Outcome.{Outcome}
 use Rattle.capcrypt.specs.declared.ending.Ending.{Ending}
-use Rattle.capcrypt.specs.declared.ending.Ending.TheVariants.{Done, Memory, Usage, Capture, ReadFault, WriteFault, TooLarge}
+use Rattle.capcrypt.specs.declared.ending.Ending.TheVariants.{Done, Memory, Usage, Vdev, Capture, Sessions, ReadFault, WriteFault, Stalled, TooLarge}
 
 abbrev pub number_of : Ending → ℕ
 number_of Done = 0
 number_of Memory = 1
 number_of Usage = 2
+number_of (Vdev at) = 2
 number_of (Capture at cause) = 3
+number_of (Sessions line kind) = 4
 number_of ReadFault = 5
 number_of WriteFault = 6
+number_of Stalled = 7
 number_of (TooLarge value) = 8
 
 abbrev pub cause_name : CaptureCause → List ℕ
@@ -28,9 +31,12 @@ abbrev pub last_line : Ending → List ℕ
 last_line Done = codes "status=0\n"
 last_line Memory = codes "status=1 memory\n"
 last_line Usage = codes "status=2 usage\n"
+last_line (Vdev at) = codes "status=2 vdev at=" ++ decimal at ++ codes "\n"
 last_line (Capture at cause) = codes "status=3 capture at=" ++ decimal at ++ codes " cause=" ++ cause_name cause ++ codes "\n"
+last_line (Sessions line kind) = codes "status=4 sessions line=" ++ decimal line ++ codes " kind=" ++ decimal kind ++ codes "\n"
 last_line ReadFault = codes "status=5 read fault\n"
 last_line WriteFault = codes "status=6 write fault\n"
+last_line Stalled = codes "status=7 stalled\n"
 last_line (TooLarge value) = codes "status=8 too large value=" ++ decimal value ++ codes "\n"
 
 abbrev pub first_line : Counts → List ℕ
@@ -46,6 +52,7 @@ device_lines n (m ∷ ms) = (codes "device " ++ decimal n ++ codes " operations=
 abbrev pub is_counted : Ending → Bool
 is_counted Done = true
 is_counted (Capture at cause) = true
+is_counted Stalled = true
 is_counted (TooLarge value) = true
 is_counted _ = false
 

@@ -1,27 +1,24 @@
 -- What is written for a capture, each packet by itself, and how a run ends where nothing outside fails.
-use Rattle.std.specs.Prelude.{ℕ, Bool, true, false, List, [], ◌∷◌, ◌++◌, max, take, length, count_by}
+use Rattle.std.specs.Prelude.{ℕ, Bool, true, false, List, [], ◌++◌, max, take}
 use Rattle.std.specs.List.{flat_map}
-use Rattle.crypto_model.specs.declared.plain.Status.{Status}
-use Rattle.crypto_model.specs.declared.plain.Status.TheVariants.{Success, AuthFailed, InvalidArgs}
 use Rattle.capture_io.specs.declared.header.Header.{Header}
-use Rattle.capture_io.specs.Capture.{Rest, End, Bad, Large, Reading, NoHeader, Holds, header_bytes, record_bytes}
-use Rattle.capcrypt.specs.declared.ending.Counts.{Counts}
+use Rattle.capture_io.specs.Capture.{Rest, End, Bad, Large, Reading, NoHeader, Holds, header_bytes}
+use Rattle.packet_plan.specs.Answered.{Answered, answered_from}
+use Rattle.packet_flow.specs.declared.counts.Counts.{Counts}
+use Rattle.packet_flow.specs.Counts.{counts_of}
+use Rattle.packet_flow.specs.Flowed.{answer_bytes}
 use Rattle.capcrypt.specs.declared.ending.Ending.{Ending}
 use Rattle.capcrypt.specs.declared.ending.Ending.TheVariants.{Done, Capture, TooLarge}
-use Rattle.capcrypt.specs.Quick.{ctr_session, Start, Begins, Stops}
-use Rattle.capcrypt.specs.Packet.{Answered, answered_from}
+use Rattle.capcrypt.specs.Start.{Start, Begins, Stops}
 
 abbrev pub raised : Header → Header
 raised h = record { big = h.big; nanos = h.nanos; zone = h.zone; sigfigs = h.sigfigs; snaplen = max h.snaplen 262208; link = h.link }
 
 -- the records of a whole run, answered
 abbrev pub answers_of : Start → Reading → List Answered
-answers_of (Begins q) (Holds h rs rest) = answered_from (ctr_session q.key ∷ []) q.salt 0 rs
-answers_of (Begins q) (NoHeader at cause) = []
+answers_of (Begins plan) (Holds h rs rest) = answered_from plan 0 rs
+answers_of (Begins plan) (NoHeader at cause) = []
 answers_of (Stops e) reading = []
-
-abbrev pub answer_bytes : Bool → Answered → List ℕ
-answer_bytes big a = record_bytes big a.rec
 
 -- the header, and these records
 abbrev pub capture_bytes : Header → List Answered → List ℕ
@@ -29,38 +26,15 @@ capture_bytes h answers = header_bytes (raised h) ++ flat_map (answer_bytes h.bi
 
 -- what is written up to n records
 abbrev pub written_upto : Start → Reading → ℕ → List ℕ
-written_upto (Begins q) (Holds h rs rest) n = capture_bytes h (take n (answers_of (Begins q) (Holds h rs rest)))
-written_upto (Begins q) (NoHeader at cause) n = []
+written_upto (Begins plan) (Holds h rs rest) n = capture_bytes h (take n (answers_of (Begins plan) (Holds h rs rest)))
+written_upto (Begins plan) (NoHeader at cause) n = []
 written_upto (Stops e) reading n = []
 
 -- what a whole run writes
 abbrev pub written_of : Start → Reading → List ℕ
-written_of (Begins q) (Holds h rs rest) = capture_bytes h (answers_of (Begins q) (Holds h rs rest))
-written_of (Begins q) (NoHeader at cause) = []
+written_of (Begins plan) (Holds h rs rest) = capture_bytes h (answers_of (Begins plan) (Holds h rs rest))
+written_of (Begins plan) (NoHeader at cause) = []
 written_of (Stops e) reading = []
-
-abbrev pub is_success : Status → Bool
-is_success Success = true
-is_success _ = false
-
-abbrev pub is_auth_failed : Status → Bool
-is_auth_failed AuthFailed = true
-is_auth_failed _ = false
-
-abbrev pub is_invalid_args : Status → Bool
-is_invalid_args InvalidArgs = true
-is_invalid_args _ = false
-
--- how many packets there are, and with what outcomes
-abbrev pub counts_of : List Answered → Counts
-counts_of answers = record {
-  packets = length answers;
-  success = count_by (λ a. is_success a.status) answers;
-  auth_failed = count_by (λ a. is_auth_failed a.status) answers;
-  invalid_args = count_by (λ a. is_invalid_args a.status) answers;
-  short = 0;
-  passed = 0;
-}
 
 -- the counts of the first n records
 abbrev pub counts_upto : Start → Reading → ℕ → Counts
@@ -74,10 +48,10 @@ ending_at (Large value) = TooLarge value
 -- how a run ends where nothing outside fails
 abbrev pub ending_of : Start → Reading → Ending
 ending_of (Stops e) reading = e
-ending_of (Begins q) (NoHeader at cause) = Capture at cause
-ending_of (Begins q) (Holds h rs rest) = ending_at rest
+ending_of (Begins plan) (NoHeader at cause) = Capture at cause
+ending_of (Begins plan) (Holds h rs rest) = ending_at rest
 
 abbrev pub reads_header : Start → Reading → Bool
-reads_header (Begins q) (Holds h rs rest) = true
-reads_header (Begins q) (NoHeader at cause) = false
+reads_header (Begins plan) (Holds h rs rest) = true
+reads_header (Begins plan) (NoHeader at cause) = false
 reads_header (Stops e) reading = false

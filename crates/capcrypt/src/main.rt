@@ -6,28 +6,32 @@
 //! they end, and on the `Ending` of the run, which decides the status and the report.
 #![tactic(auto)]
 
-mod command;
+ghost use Rattle.std.specs.Prelude.{◌≡◌, [], All, IfOk, length};
+ghost use Rattle.sym_engine.specs.Driver.{held_of};
+
 mod ending;
 mod line;
-mod packet;
-mod reading;
 mod report;
+mod start;
 mod top;
-mod writing;
+mod work;
 
 use anyhow::Result;
-use capture_io::{MemSource, StdSink, StdSource};
-pub use command::{Quick, quick_of};
+use capture_io::{MemSource, Source, StdSink, StdSource};
+use command_words::sessions_path;
 use crypto_op::Card;
-pub use ending::{Counts, Ending, Outcome};
+pub use ending::{Ending, Outcome};
 use std::alloc::Global;
 use std::env;
+use std::fs::File;
 use std::io::{BufReader, BufWriter};
 use std::process::ExitCode;
 use sym_engine::PlainDriver;
 pub use top::{Done, run};
 
 const BUFFER: usize = 65_536;
+
+const DEVICES: usize = 8;
 
 fn words(rt: &HostRuntime, alloc: Global) -> Result<Vec<String>> {
     let mut words = Vec::new(alloc);
@@ -37,26 +41,54 @@ fn words(rt: &HostRuntime, alloc: Global) -> Result<Vec<String>> {
     Ok(words)
 }
 
-fn status(rt: &HostRuntime) -> Result<u8> {
-    let alloc = rt.alloc();
-    let words = words(rt, alloc)?;
+fn devices(alloc: Global) -> Result<Vec<PlainDriver<Card>>>
+    ensures count { IfOk result (λ v. length v.items ≡ 8) }
+    ensures idle { IfOk result (λ v. All (λ d. held_of d ≡ []) v.items) }
+{
+    let mut devs = Vec::new(alloc);
+    for _n in 0..DEVICES {
+        devs.push(PlainDriver::<Card>::new(alloc)?)?;
+    }
+    Ok(devs)
+}
+
+fn run_with<T: Source>(
+    rt: &HostRuntime,
+    alloc: Global,
+    words: &[String],
+    sessions: &mut T,
+) -> Result<u8> {
     let mut capture = StdSource::new(BufReader::with_capacity(alloc, BUFFER, rt.stdin())?);
-    let mut sessions = MemSource::new(Vec::new(alloc), 1, Vec::new(alloc));
     let mut out = StdSink::new(BufWriter::with_capacity(alloc, BUFFER, rt.stdout())?);
     let mut report = StdSink::new(rt.stderr());
-    let device = PlainDriver::<Card>::new(alloc)?;
-    let mut devs = Vec::new(alloc);
-    devs.push(device)?;
+    let devs = devices(alloc)?;
     let done = run(
         alloc,
-        &words,
+        words,
         &mut capture,
-        &mut sessions,
+        sessions,
         &mut out,
         &mut report,
         devs,
     );
     Ok(done.status)
+}
+
+// A session file that can't be opened is a source whose first read fails.
+fn status(rt: &HostRuntime) -> Result<u8> {
+    let alloc = rt.alloc();
+    let words = words(rt, alloc)?;
+    let Some(path) = sessions_path(alloc, &words)? else {
+        let mut none = MemSource::new(Vec::new(alloc), 1, Vec::new(alloc));
+        return run_with(rt, alloc, &words, &mut none);
+    };
+    match File::open(rt, &path) {
+        Ok(file) => run_with(rt, alloc, &words, &mut StdSource::new(file)),
+        Err(_) => {
+            let mut missing = MemSource::new(Vec::new(alloc), 1, Vec::from_slice(alloc, &[0])?);
+            run_with(rt, alloc, &words, &mut missing)
+        }
+    }
 }
 
 fn main(rt: HostRuntime) -> ExitCode {

@@ -5,9 +5,10 @@ ghost use Rattle.capcrypt.specs.Report.{cause_name, last_line, first_line, devic
 ghost use Rattle.capcrypt.specs.Ran.{AppendsFront};
 ghost use Rattle.capcrypt.specs.LineText.{line_text};
 
-use crate::ending::{Counts, Ending, Outcome};
+use crate::ending::{Ending, Outcome};
 use crate::line::Line;
 use capture_io::{CaptureCause, Sink, WriteFault, write_all};
+use packet_flow::Counts;
 
 fn name_of(cause: CaptureCause) -> &'static [u8]
     ensures text { result.now ≡ cause_name cause }
@@ -55,14 +56,24 @@ fn line_of_ending(ending: &Ending) -> Line
         Ending::Done => line.push(b"status=0\n"),
         Ending::Memory => line.push(b"status=1 memory\n"),
         Ending::Usage => line.push(b"status=2 usage\n"),
+        Ending::Vdev { at } => {
+            line.field(b"status=2 vdev at=", at);
+            line.push(b"\n");
+        }
         Ending::Capture { at, cause } => {
             line.field(b"status=3 capture at=", at);
             line.push(b" cause=");
             line.push(name_of(cause));
             line.push(b"\n");
         }
+        Ending::Sessions { line: number, kind } => {
+            line.field(b"status=4 sessions line=", u64::from(number));
+            line.field(b" kind=", u64::from(kind));
+            line.push(b"\n");
+        }
         Ending::ReadFault => line.push(b"status=5 read fault\n"),
         Ending::WriteFault => line.push(b"status=6 write fault\n"),
+        Ending::Stalled => line.push(b"status=7 stalled\n"),
         Ending::TooLarge(value) => {
             line.field(b"status=8 too large value=", value);
             line.push(b"\n");
@@ -76,7 +87,7 @@ fn is_counted(ending: &Ending) -> bool
 {
     matches!(
         ending,
-        Ending::Done | Ending::Capture { .. } | Ending::TooLarge(_)
+        Ending::Done | Ending::Capture { .. } | Ending::Stalled | Ending::TooLarge(_)
     )
 }
 

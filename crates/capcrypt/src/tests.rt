@@ -122,6 +122,9 @@ fn run_in_memory(
     })
 }
 
+mod crypt;
+mod devices;
+
 #[test]
 fn the_published_packet_is_encrypted(rt: HostRuntime) -> Result<(), Fail> {
     let alloc = rt.alloc();

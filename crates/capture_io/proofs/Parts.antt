@@ -32,6 +32,12 @@ written_more at n k piece first mid last whole before now =
     let all : take k (drop at piece) ≡ drop at piece = take_all k (drop at piece) (omega (arith, length-drop at piece)) in
     rw (take-add at n piece, ← append_assoc) (rw all at now ∙ ap (λ (l : List ℕ). l ++ take n (drop at piece)) before)
 
+-- what was read so far and n bytes more, that are one too many
+pub one_too_many : (limit n : ℕ) (text buf first mid last : List ℕ) → length text + n ≡ limit + 1 → n ≤ length buf → first ≡ text ++ mid → mid ≡ take n buf ++ last
+    → (front : List ℕ) × (length front ≡ limit + 1) × (first ≡ front ++ last)
+one_too_many limit n text buf first mid last over in_buf before now =
+    (text ++ take n buf, omega (arith, length-append text (take n buf), length-take n buf), rw append_assoc (before ∙ ap (λ (l : List ℕ). text ++ l) now))
+
 -- n bytes of a source in memory, copied to the front of a buffer
 pub source_taken : (at n k : ℕ) (bytes part rest : List ℕ) → length bytes ≤ at + k → n + at ≤ length bytes
     → part ≡ take n (take k (drop at bytes)) → drop at bytes ≡ take n (part ++ rest) ++ drop (at + n) bytes

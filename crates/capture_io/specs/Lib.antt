@@ -3,3 +3,4 @@ pub mod Memory
 pub mod Standard
 pub mod Filled
 pub mod Capture
+pub mod Limits

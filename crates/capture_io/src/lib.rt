@@ -31,6 +31,8 @@
 //!
 //! A packet that was read lies in segments of a store, as `filled_shape` of `specs/Filled` says.
 //!
+//! [`read_text`] reads all that is left of a source, where that is no more than a limit.
+//!
 //! A `Source` or a `Sink` whose bytes contracts can know `tells` them; and `Rose` says that a count of
 //! faults rose, or stands at its last value.
 #![tactic(auto)]
@@ -43,6 +45,7 @@ mod packet;
 mod pieces;
 mod reading;
 mod standard;
+mod text;
 mod writing;
 
 pub use header::{CaptureCause, Header, Place, ReadStop, Record};
@@ -52,6 +55,7 @@ pub use outside::{ReadFault, Sink, Source, WriteFault};
 pub use pieces::{fill, write_all};
 pub use reading::{read_header, read_record};
 pub use standard::{StdSink, StdSource};
+pub use text::{TextStop, read_text};
 pub use writing::{write_header, write_record};
 
 #[cfg(test)]

@@ -4,6 +4,7 @@ ghost use Rattle.crypto_model.specs.Counts.{Rose};
 ghost use Rattle.capture_io.specs.Capture.{number, magic_of, header_of, header_at, head_of, limit_of, record_at, view, behind, StopsHeader, CanStopHeader, IsHeaderFault, StopsRecord, CanStopRecord};
 ghost use Rattle.mbuf_chain.specs.Chain.{packet_of, shape_of};
 ghost use Rattle.capture_io.specs.Filled.{filled_shape};
+ghost use Rattle.capture_io.specs.Limits.{IsSmall};
 
 use crate::header::{CaptureCause, Header, Place, ReadStop, Record, RecordHead};
 use crate::outside::Source;
@@ -149,7 +150,7 @@ pub fn read_record<S: Source, P: SegStore>(
     // Also where the bytes are not told.
     ensures never { IfErr result (CanStopRecord place.old.at) }
     ensures moved { IfOk result (λ r. place.new ≡ behind place.old (view r)) }
-    ensures small { IfOk result (λ r. length (packet_of r.packet) ≤ 262144) }
+    ensures small { IfOk result IsSmall }
     ensures filled { IfOk result (λ r. shape_of r.packet ≡ filled_shape (length (packet_of r.packet))) }
     ensures range { place.new.records < 2 ^ 32 }
     ensures more { IfOk result (λ r. place.new.records ≡ place.old.records + 1) }

@@ -1,7 +1,7 @@
 use crate::{
     CaptureCause, Header, MemSink, MemSource, Place, ReadFault, ReadStop, Record, Sink, Source,
-    StdSink, StdSource, WriteFault, fill, one_reading, read_header, read_record, write_all,
-    write_header, write_record,
+    StdSink, StdSource, TextStop, WriteFault, fill, one_reading, read_header, read_record,
+    read_text, write_all, write_header, write_record,
 };
 use mbuf_chain::{FreshSegs, NoSeg, SegStore};
 use seg_list::Seg;
@@ -351,5 +351,81 @@ fn faults_of_std_are_told(rt: HostRuntime) -> Result<(), Fail> {
     let mut sink = StdSink::new(room.as_mut_slice());
     assert_eq!(rt; write_all(&mut sink, b"abc"), Err(WriteFault));
     assert_eq!(rt; room, *b"ab");
+    Ok(())
+}
+
+// So many bytes, of which those at a distance of 4,096 differ.
+fn text_of(alloc: Global, len: u32) -> Result<Vec<u8>, Fail> {
+    let mut text = Vec::new(alloc);
+    for i in 0..len {
+        text.push((i % 251) as u8)?;
+    }
+    Ok(text)
+}
+
+// Each case is a text's length, a limit, and whether the text is read.
+#[test]
+fn texts_are_read_up_to_a_limit(rt: HostRuntime) -> Result<(), Fail> {
+    let alloc = rt.alloc();
+    for (len, limit, fits) in [
+        (0, 0, true),
+        (0, 1, true),
+        (0, 9000, true),
+        (1, 0, false),
+        (1, 1, true),
+        (2, 1, false),
+        (4095, 4096, true),
+        (4096, 4095, false),
+        (4096, 4096, true),
+        (4097, 4096, false),
+        (4097, 4097, true),
+        (9000, 0, false),
+        (9000, 8999, false),
+        (9000, 9000, true),
+        (9000, usize::MAX, true),
+    ] {
+        for piece in [1, 5000] {
+            let expected = if fits {
+                Ok(text_of(alloc, len)?)
+            } else {
+                Err(TextStop::TooLarge)
+            };
+            let mut source = MemSource::new(text_of(alloc, len)?, piece, Vec::new(alloc));
+            let read = read_text(alloc, &mut source, limit);
+            assert_eq!(rt; read, expected, "{len} of {limit} bytes, {piece} at a time");
+        }
+    }
+    Ok(())
+}
+
+// Each case is a limit, a read that fails, why the text of 12 bytes is not read, and how many bytes are
+// left then. A read gives 5 bytes.
+#[test]
+fn the_rest_is_left_at_a_stop(rt: HostRuntime) -> Result<(), Fail> {
+    let alloc = rt.alloc();
+    let mut buf = [0; 64];
+    for (limit, fail, stop, left) in [
+        (20, 0, TextStop::Fault, 12),
+        (20, 2, TextStop::Fault, 2),
+        (20, 3, TextStop::Fault, 0),
+        (12, 3, TextStop::Fault, 0),
+        (7, 1, TextStop::Fault, 7),
+        (7, 9, TextStop::TooLarge, 4),
+        (0, 9, TextStop::TooLarge, 11),
+    ] {
+        let fails = Vec::from_slice(alloc, &[fail])?;
+        let mut source = MemSource::new(text_of(alloc, 12)?, 5, fails);
+        let read = read_text(alloc, &mut source, limit);
+        assert_eq!(rt; read, Err(stop), "read {fail} fails");
+        assert_eq!(rt; fill(&mut source, &mut buf), Ok(left), "read {fail} fails");
+    }
+
+    let mut source = StdSource::new(FailsOnce {
+        bytes: text_of(alloc, 12)?,
+        before: Some(7),
+    });
+    assert_eq!(rt; read_text(alloc, &mut source, 20), Err(TextStop::Fault));
+    let rest = read_text(alloc, &mut source, 5)?;
+    assert_eq!(rt; rest.as_slice(), [7, 8, 9, 10, 11].as_slice());
     Ok(())
 }

@@ -1,3 +1,6 @@
 pub mod Burst
 pub mod Stats
 pub mod SetUp
+pub mod Limits
+pub mod Stall
+pub mod Log

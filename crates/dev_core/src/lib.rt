@@ -5,12 +5,22 @@
 //! enqueue moves the first operations of a burst inside, and a dequeue hands some out, each `IsDone`:
 //! with the answer to its made request under the driver's `sessions`. A driver that moves fewer than it
 //! could has its count of `stalls` rise, and for no other cause may it move fewer.
+//!
+//! Two devices stand over any other: `StallDriver` moves at most so many operations in a call, and
+//! `LogDriver` logs what it takes, up to a number of entries.
 #![tactic(auto)]
 
+mod cuts;
 mod driver;
+mod limits;
+mod log;
+mod stall;
 mod stats;
 
 pub use driver::{Device, Driver, Kind, LogEntry, SetUpRefused};
+pub use limits::{LimitList, Limits};
+pub use log::LogDriver;
+pub use stall::StallDriver;
 pub use stats::Stats;
 
 #[cfg(test)]

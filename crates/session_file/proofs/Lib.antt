@@ -10,5 +10,6 @@ pub mod Parts
 pub mod RoundTrip
 pub mod RuleLines
 pub mod SessionLines
+pub mod Sound
 pub mod Values
 pub mod Words

@@ -1,21 +1,27 @@
--- The text of a plan that some text says is read as this plan.
+-- The text of a plan that some text says is read as this plan, and the plan is sound.
 use Rattle.std.proofs.Common.{◌≡◌, ◌+◌, ◌++◌, ℕ, Bool, List, [], ◌∷◌, true, false, sym, refl, arith, subst, Ok, Err, Result, Option, Some, None}
-use Rattle.std.specs.Prelude.{if◌then◌else◌}
+use Rattle.std.specs.Prelude.{IfOk, if◌then◌else◌}
 use Rattle.std.specs.Option.{option_map_or}
+use Rattle.std.proofs.lemmas.List.Elements.{All-nil}
 use Rattle.session_file.specs.declared.draft.Draft.{Draft}
 use Rattle.session_file.specs.declared.plan.Choice.{Choice}
 use Rattle.session_file.specs.declared.plan.Named.{Named}
 use Rattle.session_file.specs.declared.plan.Plan.{Plan}
 use Rattle.session_file.specs.declared.plan.Rule.{Rule}
+use Rattle.session_file.specs.declared.refused.ParseRefused.{ParseRefused}
 use Rattle.session_file.specs.Text.{lines_of, words_of}
 use Rattle.session_file.specs.Value.{Word}
 use Rattle.session_file.specs.Form.{LineWords, SessionWords, RuleWords, DefaultWords, form_of}
 use Rattle.session_file.specs.Fault.{choice_of, faults_of, first_that_holds}
 use Rattle.session_file.specs.Plan.{added, is_header, is_significant, line_then, no_lines, plan_of, read_form, read_from, read_line, read_words}
+use Rattle.session_file.specs.Sound.{IsSound, IsSoundSession}
+use Rattle.session_file.specs.Spelling.{spelling}
+use Rattle.session_file.specs.View.{GivesPlan}
 use Rattle.session_file.proofs.Leads.{Leads-none}
 use Rattle.session_file.proofs.SessionLines.{above, session_again, session_of}
 use Rattle.session_file.proofs.RuleLines.{IsChoice, closed}
 use Rattle.session_file.proofs.Again.{Again, Again-rule, Again-session, Said, said}
+use Rattle.session_file.proofs.Sound.{session_sound}
 use Rattle.session_file.proofs.Faultless.{chosen, none_holds, not_false, rule_faultless, rule_of, session_faultless, some_of}
 
 -- a draft that is read again: open, or closed by its default line
@@ -26,7 +32,7 @@ data Next : Draft → Type 0 where
 Next-form : (ss : List Named) (rs : List Rule) → Again ss rs → (form : LineWords) → first_that_holds (faults_of (above ss rs) form) ≡ None → Next (added (above ss rs) form)
 Next-form ss rs again (SessionWords name parts) e =
     let is = session_faultless ss rs name parts e in
-    Open (ss ++ session_of name parts ∷ []) rs (Again-session ss rs (session_of name parts) again is.named (session_again ss name parts is))
+    Open (ss ++ session_of name parts ∷ []) rs (Again-session ss rs (session_of name parts) again is.named (session_sound ss name parts is) is.few (session_again ss name parts is))
 Next-form ss rs again (RuleWords offset bytes t) e =
     let is = rule_faultless ss rs offset bytes t again.names e in
     Open ss (rs ++ rule_of ss offset bytes t ∷ []) (Again-rule ss rs (rule_of ss offset bytes t) again is.0 is.1)
@@ -100,7 +106,7 @@ open_said (line ∷ lines) n ss rs plan again e =
 
 -- before the first line nothing is said
 Again-none : Again [] []
-Again-none = record { names = refl; sessions = Leads-none (above [] []); rules = tt; few = omega arith }
+Again-none = record { names = refl; sound = All-nil IsSoundSession; room = omega arith; sessions = Leads-none (above [] []); rules = tt; few = omega arith }
 
 first_step : (n : ℕ) (significant header : Bool) (lines : List (List ℕ)) (words : List Word) (plan : Plan)
     → (read_from (n + 1) no_lines lines ≡ Ok plan → Said plan)
@@ -115,6 +121,14 @@ first_said [] n plan e = cc
 first_said (line ∷ lines) n plan e =
     first_step n (is_significant (words_of line)) (is_header (words_of line)) lines (words_of line) plan (first_said lines (n + 1) plan) e
 
-pub read_again : (text : List ℕ) (plan : Plan) → plan_of text ≡ Ok plan → Said plan
+text_said : (text : List ℕ) (plan : Plan) → plan_of text ≡ Ok plan → Said plan
 unfolding plan_of
-read_again text plan e = first_said (lines_of text) 1 plan e
+text_said text plan e = first_said (lines_of text) 1 plan e
+
+pub read_again : (text : List ℕ) (plan : Plan) → plan_of text ≡ Ok plan → plan_of (spelling plan) ≡ Ok plan
+read_again text plan e = (text_said text plan e).again
+
+-- what is read of a text is sound
+pub read_sound : (text : List ℕ) (r : Result Plan ParseRefused) → GivesPlan r (plan_of text) → IfOk r IsSound
+read_sound text (Ok plan) e = (text_said text plan e).sound
+read_sound text (Err refused) e = tt

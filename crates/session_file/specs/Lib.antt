@@ -1,6 +1,7 @@
 pub mod Form
 pub mod Fault
 pub mod Plan
+pub mod Sound
 pub mod Spelling
 pub mod Text
 pub mod Value

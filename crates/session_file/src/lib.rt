@@ -39,7 +39,10 @@
 //! - `plan_of` of `Plan`: what a text says, its plan or the line and the kind of its fault. It is a
 //!   function, so each text has exactly one of the two;
 //! - `spelling` of `Spelling`: the text that [`print`] writes. By the law [`read_again`] it says the plan;
-//! - `GivesPlan` of `View`: [`parse`] answers what `plan_of` says, or that memory was wanting.
+//! - `GivesPlan` of `View`: [`parse`] answers what `plan_of` says, or that memory was wanting;
+//! - `IsSound` of `Sound`: what holds of each plan that [`parse`] answers. The transforms of each session make
+//!   a session, whose salt has the bytes that they take together; there are at most 1,024 sessions; and each
+//!   choice names one of them, which takes its skip.
 #![tactic(auto)]
 
 mod draft;

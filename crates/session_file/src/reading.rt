@@ -1,7 +1,8 @@
 //! A text as a plan.
-ghost use Rattle.std.specs.Prelude.{◌≤◌, ◌^◌, length};
+ghost use Rattle.std.specs.Prelude.{◌≤◌, ◌^◌, length, IfOk};
 ghost use Rattle.session_file.specs.View.{GivesPlan};
 ghost use Rattle.session_file.specs.Plan.{finished, plan_of};
+ghost use Rattle.session_file.specs.Sound.{IsSound};
 
 use crate::draft::Draft;
 use crate::plan::Plan;
@@ -29,7 +30,8 @@ fn finish(draft: Draft, line: u32) -> Result<Plan, ParseRefused>
 /// The plan that a session text says, or its first faulty line with the kind of the fault.
 pub fn parse(alloc: Global, bytes: &[u8]) -> Result<Plan, ParseRefused>
     requires { length bytes.now ≤ 2 ^ 20 }
-    ensures { GivesPlan result (plan_of bytes.now) }
+    ensures gives { GivesPlan result (plan_of bytes.now) }
+    ensures sound { IfOk result IsSound }
 {
     let mut draft = Draft::new(alloc);
     let mut left = bytes;

@@ -1,0 +1,73 @@
+//! What the words and the session source ask for.
+ghost use Rattle.std.specs.Prelude.{◌≡◌, ◌≤◌, length, map, string_bytes, Err, IfOk, IfErr};
+ghost use Rattle.crypto_model.specs.Counts.{Rose};
+ghost use Rattle.session_file.specs.Sound.{IsSound};
+ghost use Rattle.command_words.specs.Asked.{asked};
+ghost use Rattle.capcrypt.specs.Start.{Begins, LeavesSessions, Stops, start_of, start_with};
+ghost use Rattle.capcrypt.specs.Ran.{IsDecided};
+
+use crate::ending::Ending;
+use capture_io::{Source, TextStop, read_text};
+use command_words::{Command, WordsRefused, command_of};
+use crypto_model::OutOfMemory;
+use packet_plan::{ReadyPlan, quick_plan};
+use session_file::{ParseRefused, Plan, parse};
+use std::alloc::Global;
+
+const MAX_TEXT: usize = 1_048_576;
+
+/// A plan, and how many operations make a burst.
+#[derive(Drop)]
+pub(crate) struct Task {
+    pub(crate) plan: ReadyPlan,
+    pub(crate) burst: usize,
+}
+
+// The plan of the session source.
+fn plan_in<T: Source>(alloc: Global, sessions: &mut T) -> Result<Plan, Ending>
+    ensures plan { T.tells → IfOk result (λ plan. start_with (T.left sessions.old) ≡ Begins plan) }
+    ensures sound { IfOk result IsSound }
+    ensures stops { T.tells → IfErr result (λ e. IsDecided e → start_with (T.left sessions.old) ≡ Stops e) }
+    ensures never { ¬ (result ≡ Err Ending.WriteFault) × ¬ (result ≡ Err Ending.Stalled) × ¬ (result ≡ Err Ending.Done) }
+    ensures later { T.faults sessions.old ≤ T.faults sessions.new }
+    ensures cause { result ≡ Err Ending.ReadFault → Rose (T.faults sessions.old) (T.faults sessions.new) }
+{
+    let text = match read_text(alloc, sessions, MAX_TEXT) {
+        Ok(text) => text,
+        Err(TextStop::Fault) => return Err(Ending::ReadFault),
+        Err(TextStop::TooLarge) => return Err(Ending::TooLarge(MAX_TEXT as u64 + 1)),
+        Err(TextStop::OutOfMemory) => return Err(Ending::Memory),
+    };
+    match parse(alloc, &text) {
+        Ok(plan) => Ok(plan),
+        Err(ParseRefused::Fault { line, kind }) => Err(Ending::Sessions { line, kind }),
+        Err(ParseRefused::OutOfMemory) => Err(Ending::Memory),
+    }
+}
+
+/// What is to be done, or how the run ends before the capture is read. The session source is read where the words ask
+/// for it.
+pub(crate) fn begin<T: Source>(
+    alloc: Global,
+    words: &[String],
+    devices: usize,
+    sessions: &mut T,
+) -> Result<Task, Ending>
+    ensures task { T.tells → IfOk result (λ t. start_of (asked (map string_bytes words.now) devices) (T.left sessions.old) ≡ Begins t.plan) }
+    ensures burst { IfOk result (λ t. (1 ≤ t.burst) × (t.burst ≤ 256)) }
+    ensures stops { T.tells → IfErr result (λ e. IsDecided e → start_of (asked (map string_bytes words.now) devices) (T.left sessions.old) ≡ Stops e) }
+    ensures never { ¬ (result ≡ Err Ending.WriteFault) × ¬ (result ≡ Err Ending.Stalled) × ¬ (result ≡ Err Ending.Done) }
+    ensures unread { LeavesSessions (asked (map string_bytes words.now) devices) → sessions.new ≡ sessions.old }
+    ensures later { T.faults sessions.old ≤ T.faults sessions.new }
+    ensures cause { result ≡ Err Ending.ReadFault → Rose (T.faults sessions.old) (T.faults sessions.new) }
+{
+    let (plan, burst) = match command_of(alloc, words, devices) {
+        Ok(Command::Quick(quick)) => (quick_plan(alloc, &quick.key, quick.salt)?, 1),
+        Ok(Command::Crypt(crypt)) => (plan_in(alloc, sessions)?, crypt.burst),
+        Err(WordsRefused::Usage) => return Err(Ending::Usage),
+        Err(WordsRefused::Vdev { at }) => return Err(Ending::Vdev { at: at as u64 }),
+        Err(WordsRefused::OutOfMemory) => return Err(Ending::Memory),
+    };
+    let plan = ReadyPlan::new(alloc, plan)?;
+    Ok(Task { plan, burst })
+}

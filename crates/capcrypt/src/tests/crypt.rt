@@ -1,0 +1,292 @@
+//! `crypt` through a plain device.
+use super::{Ended, HEAD_OF_16, HEAD_OF_60, HEADER, RAISED, joined, one_device, words_of};
+use crate::run;
+use capture_io::{MemSink, MemSource};
+use crypto_op::Card;
+use dev_core::Driver;
+use std::alloc::Global;
+use std::test::Fail;
+
+const CRYPT: [&str; 7] = [
+    "crypt",
+    "--vdev",
+    "mode=round-robin,worker=plain",
+    "--sessions",
+    "f",
+    "--burst",
+    "1",
+];
+
+pub(super) const SEALS: &[u8] =
+    b"capcrypt 1\nsession s gcm encrypt 00000000000000000000000000000000 00000000 16 0\ndefault s 0\n";
+
+const OPENS: &[u8] =
+    b"capcrypt 1\nsession s gcm decrypt 00000000000000000000000000000000 00000000 16 0\ndefault s 0\n";
+
+const HEAD_OF_32: [u8; 16] = [1, 0, 0, 0, 0, 0, 0, 0, 32, 0, 0, 0, 32, 0, 0, 0];
+
+// Sixteen zero bytes under the zero key and the zero IV, and their tag: test case 2 of the GCM specification.
+const SEALED: [u8; 32] = [
+    0x03, 0x88, 0xda, 0xce, 0x60, 0xb6, 0xa3, 0x92, 0xf3, 0x28, 0xc2, 0xb9, 0x71, 0xb2, 0xfe, 0x78,
+    0xab, 0x6e, 0x47, 0xd4, 0x2c, 0xec, 0x13, 0xbd, 0xf5, 0x3a, 0x67, 0xb2, 0x12, 0x57, 0xbd, 0xdf,
+];
+
+// Runs `crypt` on a session text and a capture; the listed reads of the session source fail.
+fn crypt(
+    alloc: Global,
+    words: &[&str],
+    text: &[u8],
+    fails: &[u32],
+    capture: Vec<u8>,
+    room: usize,
+) -> Result<Ended, Fail> {
+    let words = words_of(alloc, words)?;
+    let mut capture = MemSource::new(capture, 1000, Vec::new(alloc));
+    let text = Vec::from_slice(alloc, text)?;
+    let mut sessions = MemSource::new(text, 100, Vec::from_slice(alloc, fails)?);
+    let mut out = MemSink::new(alloc, room, Vec::new(alloc))?;
+    let mut report = MemSink::new(alloc, 1000, Vec::new(alloc))?;
+    let devs = one_device(alloc)?;
+    let done = run(
+        alloc,
+        &words,
+        &mut capture,
+        &mut sessions,
+        &mut out,
+        &mut report,
+        devs,
+    );
+    let device = done.devs.first().ok_or("no device")?;
+    let enqueued = Driver::<Card>::stats(device).enqueued;
+    Ok(Ended {
+        status: done.status,
+        enqueued,
+        out,
+        report,
+    })
+}
+
+// One packet under a session text: the record that is written, and the counts of the report.
+#[test]
+fn one_packet_is_sealed_opened_or_left(rt: HostRuntime) -> Result<(), Fail> {
+    let alloc = rt.alloc();
+    let zeros = [0; 60];
+    let mut forged = SEALED;
+    forged[31] = 0xde;
+    let cbc: &[u8] =
+        b"capcrypt 1\nsession c cbc encrypt 2b7e151628aed2a6abf7158809cf4f3c 0000000000000000\ndefault c 14\n";
+    let passes: &[u8] = b"capcrypt 1\ndefault pass\n";
+    let head_of_13: &[u8] = &[1, 0, 0, 0, 0, 0, 0, 0, 13, 0, 0, 0, 13, 0, 0, 0];
+    let success = "success=1 auth_failed=0 invalid_args=0 short=0 passed=0\ndevice 0 operations=1";
+    let auth_failed =
+        "success=0 auth_failed=1 invalid_args=0 short=0 passed=0\ndevice 0 operations=1";
+    let invalid_args =
+        "success=0 auth_failed=0 invalid_args=1 short=0 passed=0\ndevice 0 operations=1";
+    let short = "success=0 auth_failed=0 invalid_args=0 short=1 passed=0\ndevice 0 operations=0";
+    let passed = "success=0 auth_failed=0 invalid_args=0 short=0 passed=1\ndevice 0 operations=0";
+    let cases: [(&[u8], &[u8], &[u8], &[u8], &[u8], &str); 6] = [
+        (
+            SEALS,
+            &HEAD_OF_16,
+            &zeros[..16],
+            &HEAD_OF_32,
+            &SEALED,
+            success,
+        ),
+        (
+            OPENS,
+            &HEAD_OF_32,
+            &SEALED,
+            &HEAD_OF_16,
+            &zeros[..16],
+            success,
+        ),
+        (
+            OPENS,
+            &HEAD_OF_32,
+            &forged,
+            &HEAD_OF_32,
+            &forged,
+            auth_failed,
+        ),
+        (cbc, &HEAD_OF_60, &zeros, &HEAD_OF_60, &zeros, invalid_args),
+        (
+            cbc,
+            head_of_13,
+            &zeros[..13],
+            head_of_13,
+            &zeros[..13],
+            short,
+        ),
+        (passes, &HEAD_OF_60, &zeros, &HEAD_OF_60, &zeros, passed),
+    ];
+    for (text, head, packet, written_head, written, counts) in cases {
+        let capture = joined(alloc, &[&HEADER, head, packet])?;
+        let run = crypt(alloc, &CRYPT, text, &[], capture, 1000)?;
+        let expected = joined(alloc, &[&RAISED, written_head, written])?;
+        assert_eq!(rt; run.out.bytes(), expected.as_slice());
+        let report = format!(in alloc; "packets=1 {counts}\nstatus=0\n")?;
+        assert_eq!(rt; run.report.bytes(), report.as_bytes());
+    }
+    Ok(())
+}
+
+// Words and session texts that end a run before the capture is read, and the report's one line.
+#[test]
+fn nothing_is_done_without_a_plan(rt: HostRuntime) -> Result<(), Fail> {
+    let alloc = rt.alloc();
+    let other = [
+        "crypt",
+        "--vdev",
+        "mode=multi-core,worker=plain",
+        "--sessions",
+        "f",
+    ];
+    let none: [&str; 1] = ["crypt"];
+    let cases: [(&[&str], &[u8], &[u32], u8, &str); 6] = [
+        (&other, SEALS, &[], 2, "status=2 vdev at=0\n"),
+        (&none, SEALS, &[], 2, "status=2 usage\n"),
+        (&CRYPT, SEALS, &[0], 5, "status=5 read fault\n"),
+        (&CRYPT, SEALS, &[1], 5, "status=5 read fault\n"),
+        (
+            &CRYPT,
+            &[b'\n'; 1_048_577],
+            &[],
+            8,
+            "status=8 too large value=1048577\n",
+        ),
+        (
+            &CRYPT,
+            &[b'\n'; 1_048_576],
+            &[],
+            4,
+            "status=4 sessions line=1048577 kind=1\n",
+        ),
+    ];
+    for (words, text, fails, status, report) in cases {
+        let capture = joined(alloc, &[&HEADER, &HEAD_OF_16, &[0; 16]])?;
+        let run = crypt(alloc, words, text, fails, capture, 1000)?;
+        assert_eq!(rt; run.status, status);
+        assert_eq!(rt; run.report.bytes(), report.as_bytes());
+        assert!(rt; run.out.bytes().is_empty());
+    }
+    Ok(())
+}
+
+// Lines behind `capcrypt 1`, and the line and the kind of their fault.
+#[test]
+fn faulty_session_texts_are_told(rt: HostRuntime) -> Result<(), Fail> {
+    let alloc = rt.alloc();
+    let cases = [
+        ("session s foo", 2, 2),
+        (
+            "session s gcm encrypt 00000000000000000000000000000000 00000000 16x 0",
+            2,
+            3,
+        ),
+        ("session s ctr encrypt 0g 00000000", 2, 4),
+        (
+            "session S ctr encrypt 00000000000000000000000000000000 00000000",
+            2,
+            5,
+        ),
+        ("default x 0", 2, 6),
+        ("session s ctr encrypt 00 00000000", 2, 7),
+        (
+            "session s gcm encrypt 00000000000000000000000000000000 00000000 16 14\ndefault s 13",
+            3,
+            8,
+        ),
+        (
+            "rule 0 0000000000000000000000000000000000000000000000000000000000000000000000000000000000000000000000000000000000000000000000000000000000 pass",
+            2,
+            9,
+        ),
+        ("", 2, 10),
+        ("default pass\ndefault pass", 3, 10),
+        (
+            "session s ctr encrypt 00000000000000000000000000000000 00000000\ndefault x 0",
+            3,
+            6,
+        ),
+    ];
+    for (lines, line, kind) in cases {
+        let text = format!(in alloc; "capcrypt 1\n{lines}")?;
+        let run = crypt(
+            alloc,
+            &CRYPT,
+            text.as_bytes(),
+            &[],
+            joined(alloc, &[&HEADER])?,
+            1000,
+        )?;
+        let report = format!(in alloc; "status=4 sessions line={line} kind={kind}\n")?;
+        assert_eq!(rt; run.report.bytes(), report.as_bytes());
+        assert!(rt; run.out.bytes().is_empty());
+    }
+    let run = crypt(
+        alloc,
+        &CRYPT,
+        b"capcrypt 3",
+        &[],
+        joined(alloc, &[&HEADER])?,
+        1000,
+    )?;
+    assert_eq!(rt;
+        run.report.bytes(),
+        b"status=4 sessions line=1 kind=1\n".as_slice()
+    );
+    Ok(())
+}
+
+// The head of a record of this length, little-endian.
+fn head_of(length: u32) -> [u8; 16] {
+    let mut head = [0; 16];
+    head[8..12].copy_from_slice(&length.to_le_bytes());
+    head[12..].copy_from_slice(&length.to_le_bytes());
+    head
+}
+
+// Datagrams of UDP are sealed, and other packets pass.
+#[test]
+fn a_rule_chooses_among_usual_packets(rt: HostRuntime) -> Result<(), Fail> {
+    let alloc = rt.alloc();
+    let text: &[u8] =
+        b"capcrypt 1\nsession a gcm encrypt 000102030405060708090a0b0c0d0e0f 00000001 16 14\nrule 23 11 a 14\ndefault pass\n";
+    let mut capture = joined(alloc, &[&HEADER])?;
+    for (length, protocol) in [(60, 17), (1514, 6), (98, 17), (342, 6)] {
+        capture.extend_from_slice(&head_of(length))?;
+        for place in 0..length {
+            capture.push(if place == 23 { protocol } else { 0 })?;
+        }
+    }
+    let run = crypt(alloc, &CRYPT[..5], text, &[], capture, 3000)?;
+    let report =
+        b"packets=4 success=2 auth_failed=0 invalid_args=0 short=0 passed=2\ndevice 0 operations=2\nstatus=0\n";
+    assert_eq!(rt; run.report.bytes(), report.as_slice());
+    let written = run.out.bytes();
+    let mut at: usize = 24;
+    for length in [76, 1514, 114, 342] {
+        let head = written.get(at..at.saturating_add(16)).ok_or("a head")?;
+        assert_eq!(rt; head, head_of(length).as_slice());
+        at = at.saturating_add(16).saturating_add(length as usize);
+    }
+    assert_eq!(rt; at, written.len());
+    Ok(())
+}
+
+#[test]
+fn the_longest_packet_is_sealed(rt: HostRuntime) -> Result<(), Fail> {
+    let alloc = rt.alloc();
+    let mut capture = joined(alloc, &[&HEADER, &head_of(262_144)])?;
+    capture.resize(262_184, 0)?;
+    let run = crypt(alloc, &CRYPT, SEALS, &[], capture, 300_000)?;
+    assert_eq!(rt; run.status, 0);
+    assert_eq!(rt; run.enqueued, 1);
+    assert_eq!(rt;
+        run.out.bytes().get(24..40),
+        Some(head_of(262_160).as_slice())
+    );
+    assert_eq!(rt; run.out.bytes().len(), 262_200);
+    Ok(())
+}

@@ -1,0 +1,152 @@
+//! Runs over devices that refuse.
+ghost use Rattle.std.specs.Prelude.{◌≡◌, [], length, IfOk, All};
+ghost use Rattle.sym_engine.specs.Driver.{held_of};
+ghost use Rattle.dev_core.specs.Stall.{inner_of};
+
+use super::crypt::SEALS;
+use super::{HEAD_OF_16, HEAD_OF_60, HEADER, RAISED, joined, words_of};
+use crate::run;
+use capture_io::{MemSink, MemSource};
+use crypto_model::{DigestPlace, Range, SessId};
+use crypto_op::{Aad, Card, Iv, Op, OpBurst, OpSpec};
+use dev_core::{Device, Driver, Kind, LimitList, Limits, LogDriver, LogEntry, StallDriver};
+use mbuf_chain::Mbuf;
+use seg_list::Seg;
+use std::alloc::Global;
+use std::sync::Arc;
+use std::test::Fail;
+use sym_engine::PlainDriver;
+use sym_session::SessionTable;
+
+fn stalling(
+    alloc: Global,
+    enqueue: Limits,
+    dequeue: Limits,
+) -> Result<Vec<StallDriver<PlainDriver<Card>>>, Fail>
+    ensures some { IfOk result (λ v. length v.items ≡ 1) }
+    ensures idle { IfOk result (λ v. All (λ d. held_of (inner_of d) ≡ []) v.items) }
+{
+    let device = StallDriver::new(PlainDriver::new(alloc)?, enqueue, dequeue);
+    let mut devs = Vec::new(alloc);
+    devs.push(device)?;
+    Ok(devs)
+}
+
+// `crypt` over such a device: its status, its operations, how many bytes were written and the report.
+fn crypt_over(
+    alloc: Global,
+    enqueue: Limits,
+    dequeue: Limits,
+    burst: &str,
+    capture: Vec<u8>,
+) -> Result<(u8, u64, usize, MemSink), Fail> {
+    let words = [
+        "crypt",
+        "--vdev",
+        "mode=round-robin,worker=plain",
+        "--sessions",
+        "f",
+        "--burst",
+        burst,
+    ];
+    let words = words_of(alloc, &words)?;
+    let mut capture = MemSource::new(capture, 1000, Vec::new(alloc));
+    let mut sessions = MemSource::new(Vec::from_slice(alloc, SEALS)?, 100, Vec::new(alloc));
+    let mut out = MemSink::new(alloc, 10_000, Vec::new(alloc))?;
+    let mut report = MemSink::new(alloc, 1000, Vec::new(alloc))?;
+    let devs = stalling(alloc, enqueue, dequeue)?;
+    let done = run(
+        alloc,
+        &words,
+        &mut capture,
+        &mut sessions,
+        &mut out,
+        &mut report,
+        devs,
+    );
+    let device = done.devs.first().ok_or("no device")?;
+    let enqueued = Driver::<Card>::stats(device).enqueued;
+    Ok((done.status, enqueued, out.bytes().len(), report))
+}
+
+#[test]
+fn a_device_may_refuse_for_a_time(rt: HostRuntime) -> Result<(), Fail> {
+    let alloc = rt.alloc();
+    let first = LimitList::copy(alloc, &[31])?;
+    // Each of the 64 packets grows by a tag of 16 bytes.
+    let whole = 24 + 64 * 92;
+    let cases = [
+        (Limits::Never, Limits::Always(1), 0, 64, whole),
+        (Limits::Listed(first), Limits::Never, 0, 64, whole),
+        (Limits::Always(1), Limits::Never, 0, 64, whole),
+        (Limits::Always(0), Limits::Never, 7, 0, 24),
+        (Limits::Never, Limits::Always(0), 7, 64, 24),
+    ];
+    for (enqueue, dequeue, status, operations, written) in cases {
+        let mut capture = joined(alloc, &[&HEADER])?;
+        for _n in 0..64 {
+            capture.extend_from_slice(&HEAD_OF_60)?;
+            capture.extend_from_slice(&[7; 60])?;
+        }
+        let (found, enqueued, length, _report) = crypt_over(
+            alloc, enqueue, dequeue, "32", capture,
+        )?;
+        assert_eq!(rt; (found, enqueued, length), (status, operations, written));
+    }
+    Ok(())
+}
+
+#[test]
+fn a_run_over_a_device_that_takes_nothing_ends(rt: HostRuntime) -> Result<(), Fail> {
+    let alloc = rt.alloc();
+    let capture = joined(alloc, &[&HEADER, &HEAD_OF_16, &[0; 16]])?;
+    let (status, _enqueued, length, report) = crypt_over(
+        alloc,
+        Limits::Always(0),
+        Limits::Never,
+        "1",
+        capture,
+    )?;
+    assert_eq!(rt; (status, length), (7, RAISED.len()));
+    let text =
+        b"packets=0 success=0 auth_failed=0 invalid_args=0 short=0 passed=0\ndevice 0 operations=0\nstatus=7 stalled\n";
+    assert_eq!(rt; report.bytes(), text.as_slice());
+    Ok(())
+}
+
+fn operation(alloc: Global, n: u32) -> Result<Op<Card>, Fail> {
+    let seg = Seg::new(alloc, 0)?;
+    let packet = Mbuf::new(alloc, seg).map_err(|_| "out of memory")?;
+    let spec = OpSpec {
+        session: SessId(n),
+        iv: Iv::copy(&[]),
+        aad: Aad::empty(alloc),
+        cipher: Range { off: 0, len: 5 },
+        auth: Range { off: 0, len: 0 },
+        place: DigestPlace::Nowhere,
+        digest: [0; 64],
+        pos: u64::from(n),
+    };
+    Ok(Op::new(spec, packet, Card { packet: n, flow: 0 }))
+}
+
+#[test]
+fn a_log_takes_no_more_than_it_has_room_for(rt: HostRuntime) -> Result<(), Fail> {
+    let alloc = rt.alloc();
+    let mut device = LogDriver::new(alloc, PlainDriver::<Card>::new(alloc)?, 1)?;
+    let sessions = Arc::new(alloc, SessionTable::new(alloc)?)?;
+    device.set_up(alloc, Kind::Plain, sessions, 8)?;
+    let mut burst = OpBurst::new(alloc, 2)?;
+    burst.push(operation(alloc, 0)?);
+    burst.push(operation(alloc, 1)?);
+    let accepted = device.enqueue_burst(&mut burst, 2);
+    assert_eq!(rt; (accepted, burst.len()), (1, 1));
+    assert_eq!(rt; Driver::<Card>::stalls(&device), 1);
+    let entry = LogEntry {
+        session: SessId(0),
+        data_len: 5,
+        pos: 0,
+    };
+    assert_eq!(rt; device.log(), [entry].as_slice());
+    Ok(())
+}

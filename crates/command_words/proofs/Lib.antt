@@ -1,0 +1,4 @@
+pub mod Given
+pub mod Taken
+pub mod Readings
+pub mod Count

@@ -1,0 +1,78 @@
+-- What the words behind the program's name ask for.
+use Rattle.std.specs.Prelude.{◌&&◌, ℕ, Bool, List, [], ◌∷◌, length, codes, Option, Some, None, Result, Ok, Err, bytes_eq, nat_le, if◌then◌else◌}
+use Rattle.std.specs.Char.{is_ascii_digit}
+use Rattle.std.specs.List.{list_all}
+use Rattle.std.specs.Str.Parse.{digits_value}
+use Rattle.command_words.specs.Quick.{key_of, salt_of}
+use Rattle.command_words.specs.Options.{Values, values_of}
+use Rattle.command_words.specs.Scheduler.{scheduler_of, workers_of}
+use Rattle.command_words.specs.declared.scheduler.SchedulerText.{SchedulerText}
+
+pub data Asked : Type 0 where
+  AsksQuick : (key salt : List ℕ) → Asked
+  AsksCrypt : (sessions : List ℕ) (burst : ℕ) → Asked
+
+-- the words are not legal, or their scheduler text is not, from this place on
+pub data Fault : Type 0 where
+  NotLegal : Fault
+  BadText : (at : ℕ) → Fault
+
+-- ---- `quick KEY SALT`
+
+abbrev pub quick_with : Option (List ℕ) → Option (List ℕ) → Result Asked Fault
+quick_with (Some key) (Some salt) = Ok (AsksQuick key salt)
+quick_with _ _ = Err NotLegal
+
+-- the words behind `quick`
+abbrev pub quick_asked : List (List ℕ) → Result Asked Fault
+quick_asked (key ∷ salt ∷ []) = quick_with (key_of key) (salt_of salt)
+quick_asked _ = Err NotLegal
+
+-- ---- `crypt`
+
+-- 1 to 10 decimal digits
+unfoldable pub is_count : List ℕ → Bool
+is_count text = nat_le 1 (length text) && (nat_le (length text) 10 && list_all is_ascii_digit text)
+
+abbrev pub count_in : List ℕ → Option ℕ
+count_in text = if is_count text then Some (digits_value 10 text) else None
+
+abbrev pub burst_if_within : Option ℕ → Option ℕ
+burst_if_within None = None
+burst_if_within (Some n) = if nat_le 1 n && nat_le n 256 then Some n else None
+
+-- N: a count from 1 to 256
+abbrev pub burst_in : List ℕ → Option ℕ
+burst_in text = burst_if_within (count_in text)
+
+abbrev pub burst_of : Option (List ℕ) → Option ℕ
+burst_of None = Some 32
+burst_of (Some text) = burst_in text
+
+-- the last rules: the scheduler text, and then that there is a device for each worker
+abbrev pub with_scheduler : Result SchedulerText ℕ → List ℕ → ℕ → ℕ → Result Asked Fault
+with_scheduler (Err at) sessions burst devices = Err (BadText at)
+with_scheduler (Ok text) sessions burst devices =
+    if nat_le (workers_of text) devices then Ok (AsksCrypt sessions burst) else Err NotLegal
+
+abbrev pub with_burst : Option ℕ → Values → ℕ → Result Asked Fault
+with_burst None values devices = Err NotLegal
+with_burst (Some burst) values devices = with_scheduler (scheduler_of values.vdev) values.sessions burst devices
+
+abbrev pub with_values : Option Values → ℕ → Result Asked Fault
+with_values None devices = Err NotLegal
+with_values (Some values) devices = with_burst (burst_of values.burst) values devices
+
+-- ---- all words
+
+-- what the words ask for, where so many devices are there
+unfoldable pub asked : List (List ℕ) → ℕ → Result Asked Fault
+asked [] devices = Err NotLegal
+asked (word ∷ rest) devices =
+    if bytes_eq word (codes "quick") then quick_asked rest
+    else (if bytes_eq word (codes "crypt") then with_values (values_of (word ∷ rest)) devices else Err NotLegal)
+
+-- the file of the sessions, where legal words name one
+abbrev pub sessions_of : Result Asked Fault → Option (List ℕ)
+sessions_of (Ok (AsksCrypt sessions burst)) = Some sessions
+sessions_of _ = None

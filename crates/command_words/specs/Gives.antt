@@ -1,0 +1,42 @@
+-- The code's answers, against what the words ask for.
+use Rattle.std.specs.Prelude.{◌≡◌, ◌≤◌, Result, Ok, Err}
+use Rattle.command_words.specs.declared.quick.Quick.{Quick}
+use Rattle.command_words.specs.declared.crypt.Crypt.{Crypt}
+use Rattle.command_words.specs.declared.command.Command.{Command}
+use Rattle.command_words.specs.declared.command.Command.TheVariants as command
+use Rattle.command_words.specs.declared.refused.WordsRefused.{WordsRefused}
+use Rattle.command_words.specs.declared.refused.WordsRefused.TheVariants.{Usage, Vdev, OutOfMemory}
+use Rattle.command_words.specs.Asked.{Asked, AsksQuick, AsksCrypt, Fault, NotLegal, BadText}
+
+abbrev pub quick_view : Quick → Asked
+quick_view q = AsksQuick q.key q.salt
+
+abbrev pub crypt_view : Crypt → Asked
+crypt_view c = AsksCrypt c.sessions.now c.burst
+
+abbrev pub command_view : Command → Asked
+command_view (command.Quick q) = quick_view q
+command_view (command.Crypt c) = crypt_view c
+
+-- the words are refused as they should be, or memory was wanting
+abbrev pub Refuses : WordsRefused → Result Asked Fault → Type 0
+Refuses Usage said = said ≡ Err NotLegal
+Refuses (Vdev at) said = said ≡ Err (BadText at)
+Refuses OutOfMemory said = Unit {0}
+
+abbrev pub GivesCrypt : Result Crypt WordsRefused → Result Asked Fault → Type 0
+GivesCrypt (Ok crypt) said = said ≡ Ok (crypt_view crypt)
+GivesCrypt (Err refused) said = Refuses refused said
+
+-- the answer is what the words ask for
+abbrev pub Gives : Result Command WordsRefused → Result Asked Fault → Type 0
+Gives (Ok command) said = said ≡ Ok (command_view command)
+Gives (Err refused) said = Refuses refused said
+
+-- from 1 to 256
+abbrev pub HasBurst : Crypt → Type 0
+HasBurst c = (1 ≤ c.burst) × (c.burst ≤ 256)
+
+abbrev pub HasBurstIfCrypt : Command → Type 0
+HasBurstIfCrypt (command.Quick q) = Unit {0}
+HasBurstIfCrypt (command.Crypt c) = HasBurst c

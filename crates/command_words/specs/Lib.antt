@@ -1,0 +1,5 @@
+pub mod Quick
+pub mod Options
+pub mod Scheduler
+pub mod Asked
+pub mod Gives

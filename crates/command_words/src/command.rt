@@ -1,0 +1,63 @@
+//! What the words ask for.
+ghost use Rattle.std.specs.Prelude.{◌≡◌, IfOk, map, option_map, string_bytes};
+ghost use Rattle.command_words.specs.Asked.{asked, sessions_of};
+ghost use Rattle.command_words.specs.Gives.{Gives, HasBurstIfCrypt};
+
+use crate::crypt::{Crypt, crypt_of};
+use crate::quick::{Quick, quick_of};
+use crate::refused::WordsRefused;
+use crypto_model::OutOfMemory;
+use std::alloc::Global;
+
+// As many devices as any words may want.
+const MAX_DEVICES: usize = 8;
+
+/// What legal words ask for.
+#[derive(Drop)]
+pub enum Command<'a> {
+    Quick(Quick),
+    Crypt(Crypt<'a>),
+}
+
+/// What the words behind the program's name ask for, where so many devices are there.
+#[tactic(auto, unfolding(crate::specs::Asked::asked))]
+pub fn command_of<'a>(
+    alloc: Global,
+    words: &'a [String],
+    devices: usize,
+) -> Result<Command<'a>, WordsRefused>
+    ensures value { Gives result (asked (map string_bytes words.entry.now) devices) }
+    ensures burst { IfOk result HasBurstIfCrypt }
+{
+    let [word, rest @ ..] = words else {
+        return Err(WordsRefused::Usage);
+    };
+    if word.as_str() == "quick" {
+        return match quick_of(rest) {
+            Some(quick) => Ok(Command::Quick(quick)),
+            None => Err(WordsRefused::Usage),
+        };
+    }
+    if word.as_str() != "crypt" {
+        return Err(WordsRefused::Usage);
+    }
+    match crypt_of(alloc, words, devices) {
+        Ok(crypt) => Ok(Command::Crypt(crypt)),
+        Err(refused) => Err(refused),
+    }
+}
+
+/// The file of the sessions, where words that are legal for eight devices name one.
+pub fn sessions_path(alloc: Global, words: &[String]) -> Result<Option<String>, OutOfMemory>
+    ensures { IfOk result (λ path. option_map string_bytes path ≡ sessions_of (asked (map string_bytes words.now) 8)) }
+{
+    match command_of(alloc, words, MAX_DEVICES) {
+        Ok(Command::Crypt(crypt)) => {
+            let path = String::from_str(alloc, crypt.sessions)?;
+            Ok(Some(path))
+        }
+        Ok(Command::Quick(_)) => Ok(None),
+        Err(WordsRefused::OutOfMemory) => Err(OutOfMemory),
+        Err(_) => Ok(None),
+    }
+}

@@ -1,0 +1,103 @@
+//! `crypt`: the rules on top of its options.
+ghost use Rattle.std.specs.Prelude.{◌≡◌, ◌≤◌, IfOk, IfSome, map, option_map, string_bytes};
+ghost use Rattle.std.specs.Char.{is_ascii_digit};
+ghost use Rattle.std.specs.List.{list_all};
+ghost use Rattle.command_words.specs.Options.{options_view, values_of};
+ghost use Rattle.command_words.specs.Asked.{burst_in, burst_of, count_in, is_count, with_burst, with_values};
+ghost use Rattle.command_words.specs.Gives.{GivesCrypt, HasBurst};
+
+use crate::options::{Options, OptionsRefused, options_of};
+use crate::refused::WordsRefused;
+use crate::scheduler::SchedulerText;
+use std::alloc::Global;
+
+const USUAL_BURST: usize = 32;
+
+/// The workers, the file of their sessions, and how many packets make a burst, from 1 to 256.
+#[derive(Clone, Copy, Debug, PartialEq, Eq)]
+pub struct Crypt<'a> {
+    pub scheduler: SchedulerText,
+    pub sessions: &'a str,
+    pub burst: usize,
+}
+
+fn has_only_digits(text: &[u8]) -> bool
+    ensures { result ≡ list_all is_ascii_digit text.now }
+{
+    text.iter().all(|b| b.is_ascii_digit())
+}
+
+#[tactic(auto, unfolding(crate::specs::Asked::is_count))]
+fn is_count(text: &str) -> bool
+    ensures { result ≡ is_count text.now }
+{
+    matches!(text.len(), 1..=10) && has_only_digits(text.as_bytes())
+}
+
+fn count_in(text: &str) -> Option<usize>
+    ensures { result ≡ count_in text.now }
+{
+    if is_count(text) {
+        text.parse().ok()
+    } else {
+        None
+    }
+}
+
+fn burst_in(text: &str) -> Option<usize>
+    ensures value { result ≡ burst_in text.now }
+    ensures range { IfSome result (λ n. (1 ≤ n) × (n ≤ 256)) }
+{
+    match count_in(text) {
+        Some(burst @ 1..=256) => Some(burst),
+        _ => None,
+    }
+}
+
+fn burst_of(text: Option<&str>) -> Option<usize>
+    ensures value { result ≡ burst_of (option_map (λ t. t.now) text.entry) }
+    ensures range { IfSome result (λ n. (1 ≤ n) × (n ≤ 256)) }
+{
+    match text {
+        Some(text) => burst_in(text),
+        None => Some(USUAL_BURST),
+    }
+}
+
+fn crypt_with<'a>(options: &Options<'a>, devices: usize) -> Result<Crypt<'a>, WordsRefused>
+    ensures value { let values = options_view options.now
+        in GivesCrypt result (with_burst (burst_of values.burst) values devices) }
+    ensures burst { IfOk result HasBurst }
+{
+    let Some(burst) = burst_of(options.burst) else {
+        return Err(WordsRefused::Usage);
+    };
+    let scheduler = match SchedulerText::parse(options.vdev) {
+        Ok(scheduler) => scheduler,
+        Err(bad) => return Err(WordsRefused::Vdev { at: bad.at }),
+    };
+    if devices < scheduler.workers() {
+        return Err(WordsRefused::Usage);
+    }
+    Ok(Crypt {
+        scheduler,
+        sessions: options.sessions,
+        burst,
+    })
+}
+
+// What the words ask for, of which the first is `crypt`.
+pub(crate) fn crypt_of<'a>(
+    alloc: Global,
+    words: &'a [String],
+    devices: usize,
+) -> Result<Crypt<'a>, WordsRefused>
+    ensures value { GivesCrypt result (with_values (values_of (map string_bytes words.entry.now)) devices) }
+    ensures burst { IfOk result HasBurst }
+{
+    match options_of(alloc, words) {
+        Ok(options) => crypt_with(&options, devices),
+        Err(OptionsRefused::Usage) => Err(WordsRefused::Usage),
+        Err(OptionsRefused::OutOfMemory) => Err(WordsRefused::OutOfMemory),
+    }
+}

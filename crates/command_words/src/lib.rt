@@ -1,0 +1,39 @@
+//! The words behind the program's name.
+//!
+//! | Words | Command |
+//! |---|---|
+//! | `quick KEY SALT` | three words. KEY has 32, 48 or 64 hexadecimal digits of either case, and SALT has 8 |
+//! | `crypt --vdev TEXT --sessions FILE` | the options in any order, each once, and perhaps `--burst N` among them |
+//!
+//! The words of `crypt` are read with `clap` as one simple command of that name, whose options take one value
+//! each: `--burst 32` and `--burst=32` are both usual, and `--sessions=` names a file of no letters. Three rules
+//! come on top, in this order:
+//!
+//! 1. N has 1 to 10 decimal digits, with a value from 1 to 256. It is 32 where `--burst` is absent;
+//! 2. TEXT is a scheduler text. For now the one is `mode=round-robin,worker=plain`;
+//! 3. TEXT names no more workers than there are devices.
+//!
+//! All other words are a fault of usage, help too, but a faulty TEXT is one of its own, told by its place.
+//!
+//! Contracts speak of words by these definitions of `specs`:
+//!
+//! - `asked` of `Asked`: what words ask for, or their fault. It is a function, so they have exactly one;
+//! - `values_of` of `Options`: the values in words that the simple command takes, which `crypt_app` describes;
+//! - `Gives` of `Gives`: [`command_of`] answers what `asked` says, or that memory was wanting.
+#![tactic(auto)]
+
+mod command;
+mod crypt;
+mod options;
+mod quick;
+mod refused;
+mod scheduler;
+
+pub use command::{Command, command_of, sessions_path};
+pub use crypt::Crypt;
+pub use quick::Quick;
+pub use refused::WordsRefused;
+pub use scheduler::SchedulerText;
+
+#[cfg(test)]
+mod tests;

@@ -1,0 +1,35 @@
+-- What is known of a logging device.
+use Rattle.std.specs.Prelude.{◌≡◌, ℕ, ◌-◌, List, [], length}
+use Rattle.dev_core.specs.declared.driver.LogEntry.{LogEntry}
+use Rattle.dev_core.specs.declared.stats.Stats.{Stats}
+use Rattle.dev_core.specs.Stats.{no_stats}
+use Rattle.dev_core.specs.declared.log.LogDriver.{LogDriver}
+
+abbrev pub inner_of : {D : Type 0} → LogDriver D → D
+inner_of d = d.inner
+
+-- how many entries it logs at most
+abbrev pub cap_of : {D : Type 0} → LogDriver D → ℕ
+cap_of d = d.cap
+
+abbrev pub log_of : {D : Type 0} → LogDriver D → List LogEntry
+log_of d = d.log.items
+
+-- how many entries it logs more
+abbrev pub log_room_of : {D : Type 0} → LogDriver D → ℕ
+log_room_of d = cap_of d - length (log_of d)
+
+-- in how many calls the cap cut the number
+abbrev pub cuts_of : {D : Type 0} → LogDriver D → ℕ
+cuts_of d = d.cuts
+
+abbrev pub stats_of : {D : Type 0} → LogDriver D → Stats
+stats_of d = d.stats
+
+-- made over this device, with nothing logged and nothing counted
+pub record IsNew {D : Type 0} (inner : D) (cap : ℕ) (d : LogDriver D) : Type 0 where
+  pub is_over : inner_of d ≡ inner
+  pub capacity : cap_of d ≡ cap
+  pub log : log_of d ≡ []
+  pub cuts : cuts_of d ≡ 0
+  pub stats : stats_of d ≡ no_stats

@@ -1,0 +1,233 @@
+//! A device that moves fewer operations than it could.
+ghost use Rattle.std.specs.Prelude.{◌≡◌, ◌+◌, ◌-◌, ◌<◌, ◌≤◌, ◌↔◌, ◌++◌, [], length, map, take, min, option_map, OnOk, OnErr, IsErrOf, IsPermutation};
+ghost use Rattle.std.specs.List.{All};
+ghost use Rattle.std.specs.Option.{ForSome};
+ghost use Rattle.std.specs.Arc.{arc_value};
+ghost use Rattle.crypto_model.specs.Counts.{capped, Rose};
+ghost use Rattle.crypto_op.specs.Op.{IsFresh, IsDone, entry_of};
+ghost use Rattle.dev_core.specs.declared.driver.SetUpRefused.TheVariants.{BadDepth, Busy};
+ghost use Rattle.dev_core.specs.Burst.{offered, lens, room_of, rest_of, front, front_log, added, with_ops};
+ghost use Rattle.dev_core.specs.Limits.{next_limit, counted, least, cuts_after};
+ghost use Rattle.dev_core.specs.SetUp.{IsDepth};
+ghost use Rattle.dev_core.specs.Stats.{no_stats, after_enqueue, after_dequeue};
+
+use crate::cuts::{admitted, count_cut};
+use crate::limits::LimitedCalls;
+use crate::{Device, Driver, Kind, Limits, SetUpRefused, Stats};
+use crypto_op::OpBurst;
+use std::alloc::Global;
+use std::sync::Arc;
+use sym_session::SessionTable;
+
+/// A device over another, with a limit for each call of the one kind and of the other. Where a limit
+/// cuts the number that the call could move, the device stalls.
+#[derive(Drop)]
+pub struct StallDriver<D> {
+    inner: D,
+    enqueues: LimitedCalls,
+    dequeues: LimitedCalls,
+    cuts: u64,
+    stats: Stats,
+}
+
+impl<D> StallDriver<D> {
+    ghost use Rattle.dev_core.specs.Stall.{inner_of, enqueues_of, dequeues_of, cuts_of, stats_of};
+
+    pub fn new(inner: D, enqueue: Limits, dequeue: Limits) -> StallDriver<D>
+        ensures inner { inner_of result ≡ inner }
+        ensures enqueues { enqueues_of result ≡ record { limits = enqueue; calls = 0 } }
+        ensures dequeues { dequeues_of result ≡ record { limits = dequeue; calls = 0 } }
+        ensures cuts { cuts_of result ≡ 0 }
+        ensures stats { stats_of result ≡ no_stats }
+    {
+        StallDriver {
+            inner,
+            enqueues: LimitedCalls {
+                limits: enqueue,
+                calls: 0,
+            },
+            dequeues: LimitedCalls {
+                limits: dequeue,
+                calls: 0,
+            },
+            cuts: 0,
+            stats: Stats::new(),
+        }
+    }
+
+    pub fn inner(&self) -> &D
+        ensures { result.now ≡ inner_of self.now }
+    {
+        &self.inner
+    }
+
+    pub fn into_inner(self) -> D
+        ensures { result ≡ inner_of self }
+    {
+        let StallDriver {
+            inner,
+            enqueues: _,
+            dequeues: _,
+            cuts: _,
+            stats: _,
+        } = self;
+        inner
+    }
+}
+
+impl<C, D: Device<C>> Driver<C> for StallDriver<D> {
+    ghost use Rattle.dev_core.specs.Stall.{inner_of, enqueues_of, dequeues_of, cuts_of, stats_of};
+
+    ghost held = { λ d. D.held (inner_of d) };
+
+    ghost room = { λ d. D.room (inner_of d) };
+
+    ghost admits = { λ d lens. D.admits (inner_of d) lens };
+
+    ghost stalls = { λ d. capped (D.stalls (inner_of d) + cuts_of d) };
+
+    ghost sessions = { λ d. D.sessions (inner_of d) };
+
+    ghost stats = { stats_of };
+
+    ghost log = { λ d. D.log (inner_of d) };
+
+    ghost ordered = { λ d. D.ordered (inner_of d) };
+
+    ghost follows = { λ d e. D.follows (inner_of d) (inner_of e) };
+
+    ghost room_admits = { λ d r ls e. D.room_admits (inner_of d) r ls e };
+
+    ghost keeps_order = { λ d e p o. D.keeps_order (inner_of d) (inner_of e) p o };
+
+    ghost follows_itself = { λ d. D.follows_itself (inner_of d) };
+
+    ghost follows_on = { λ d e f p q. D.follows_on (inner_of d) (inner_of e) (inner_of f) p q };
+
+    fn enqueue_burst(&mut self, burst: &mut OpBurst<C>, max: usize) -> usize
+        requires { All IsFresh (take max burst.old.ops) }
+        ensures offered { result ≤ offered max burst.old }
+        ensures rest { burst.new ≡ rest_of result burst.old }
+        ensures held { IsPermutation (D.held (inner_of self.old) ++ front result burst.old) (D.held (inner_of self.new)) }
+        ensures in_order { D.ordered (inner_of self.old) → D.held (inner_of self.new) ≡ D.held (inner_of self.old) ++ front result burst.old }
+        ensures admitted { ForSome (D.admits (inner_of self.old) (lens max burst.old)) (λ a. result ≤ a) }
+        ensures cause { ForSome (D.admits (inner_of self.old) (lens max burst.old)) (λ a. result < a → Rose (capped (D.stalls (inner_of self.old) + cuts_of self.old)) (capped (D.stalls (inner_of self.new) + cuts_of self.new))) }
+        ensures room { D.room (inner_of self.new) ≡ option_map (λ r. r - result) (D.room (inner_of self.old)) }
+        ensures stalls { capped (D.stalls (inner_of self.old) + cuts_of self.old) ≤ capped (D.stalls (inner_of self.new) + cuts_of self.new) }
+        ensures sessions { D.sessions (inner_of self.new) ≡ D.sessions (inner_of self.old) }
+        ensures stats { stats_of self.new ≡ after_enqueue (offered max burst.old) result (stats_of self.old) }
+        ensures log { D.log (inner_of self.new) ≡ option_map (λ l. l ++ front_log result burst.old) (D.log (inner_of self.old)) }
+        ensures follows { D.follows (inner_of self.old) (inner_of self.new) }
+
+        // A stall of its own exactly where the call's limit is below what the inner device admits.
+        ensures exact { ForSome (D.admits (inner_of self.old) (lens max burst.old)) (λ a. cuts_of self.new ≡ cuts_after (next_limit (enqueues_of self.old)) a (cuts_of self.old)) }
+        ensures limited { ForSome (next_limit (enqueues_of self.old)) (λ limit. result ≤ limit) }
+        ensures inner_cause { ForSome (D.admits (inner_of self.old) (lens max burst.old)) (λ a. result < least (next_limit (enqueues_of self.old)) a → Rose (D.stalls (inner_of self.old)) (D.stalls (inner_of self.new))) }
+        ensures inner_stalls { D.stalls (inner_of self.old) ≤ D.stalls (inner_of self.new) }
+        ensures inner_stats { D.stats (inner_of self.new) ≡ after_enqueue (least (next_limit (enqueues_of self.old)) (offered max burst.old)) result (D.stats (inner_of self.old)) }
+        ensures enqueues { enqueues_of self.new ≡ counted (enqueues_of self.old) }
+        ensures dequeues { dequeues_of self.new ≡ dequeues_of self.old }
+    {
+        let offered = max.min(burst.len());
+        let could = admitted(&self.inner, burst, max);
+        let most = self.enqueues.next(max);
+        self.cuts = count_cut(self.cuts, most, could);
+        let n = self.inner.enqueue_burst(burst, most);
+        self.stats.count_enqueue(offered, n);
+        n
+    }
+
+    fn dequeue_burst(&mut self, out: &mut OpBurst<C>, max: usize) -> usize
+        ensures within { result ≤ min max (room_of out.old) }
+        ensures kept { out.new ≡ with_ops (added out.old out.new) out.old }
+        ensures count { length out.new.ops ≡ length out.old.ops + result }
+        ensures held { IsPermutation (map entry_of (added out.old out.new) ++ D.held (inner_of self.new)) (D.held (inner_of self.old)) }
+        ensures in_order { D.ordered (inner_of self.old) → D.held (inner_of self.old) ≡ map entry_of (added out.old out.new) ++ D.held (inner_of self.new) }
+        ensures done { All (IsDone (D.sessions (inner_of self.old))) (added out.old out.new) }
+        ensures cause { result < min (min max (room_of out.old)) (length (D.held (inner_of self.old))) → Rose (capped (D.stalls (inner_of self.old) + cuts_of self.old)) (capped (D.stalls (inner_of self.new) + cuts_of self.new)) }
+        ensures room { D.room (inner_of self.new) ≡ option_map (λ r. r + result) (D.room (inner_of self.old)) }
+        ensures stalls { capped (D.stalls (inner_of self.old) + cuts_of self.old) ≤ capped (D.stalls (inner_of self.new) + cuts_of self.new) }
+        ensures sessions { D.sessions (inner_of self.new) ≡ D.sessions (inner_of self.old) }
+        ensures stats { stats_of self.new ≡ after_dequeue (min max (room_of out.old)) result (stats_of self.old) }
+        ensures log { D.log (inner_of self.new) ≡ D.log (inner_of self.old) }
+        ensures follows { D.follows (inner_of self.old) (inner_of self.new) }
+
+        // A stall of its own exactly where the call's limit is below what it could give.
+        ensures exact { cuts_of self.new ≡ cuts_after (next_limit (dequeues_of self.old)) (min (min max (room_of out.old)) (length (D.held (inner_of self.old)))) (cuts_of self.old) }
+        ensures limited { ForSome (next_limit (dequeues_of self.old)) (λ limit. result ≤ limit) }
+        ensures inner_cause { result < least (next_limit (dequeues_of self.old)) (min (min max (room_of out.old)) (length (D.held (inner_of self.old)))) → Rose (D.stalls (inner_of self.old)) (D.stalls (inner_of self.new)) }
+        ensures inner_stalls { D.stalls (inner_of self.old) ≤ D.stalls (inner_of self.new) }
+        ensures inner_stats { D.stats (inner_of self.new) ≡ after_dequeue (least (next_limit (dequeues_of self.old)) (min max (room_of out.old))) result (D.stats (inner_of self.old)) }
+        ensures dequeues { dequeues_of self.new ≡ counted (dequeues_of self.old) }
+        ensures enqueues { enqueues_of self.new ≡ enqueues_of self.old }
+    {
+        let asked = max.min(out.room());
+        let ready = asked.min(self.inner.held());
+        let most = self.dequeues.next(max);
+        self.cuts = count_cut(self.cuts, most, ready);
+        let n = self.inner.dequeue_burst(out, most);
+        self.stats.count_dequeue(asked, n);
+        n
+    }
+
+    fn held(&self) -> usize {
+        self.inner.held()
+    }
+
+    fn stalls(&self) -> u64 {
+        self.inner.stalls().saturating_add(self.cuts)
+    }
+
+    fn stats(&self) -> Stats {
+        self.stats
+    }
+
+    fn sessions(&self) -> &SessionTable {
+        self.inner.sessions()
+    }
+}
+
+impl<C, D: Device<C>> Device<C> for StallDriver<D> {
+    ghost use Rattle.dev_core.specs.Stall.{inner_of, enqueues_of, dequeues_of, cuts_of, stats_of};
+
+    ghost limit = { λ d. D.limit (inner_of d) };
+
+    ghost room_told = { λ d. D.room_told (inner_of d) };
+
+    ghost keeps_depth = { λ d e p. D.keeps_depth (inner_of d) (inner_of e) p };
+
+    /// Sets the inner device up. It goes on counting calls where it was.
+    fn set_up(
+        &mut self,
+        alloc: Global,
+        kind: Kind,
+        sessions: Arc<SessionTable>,
+        depth: usize,
+    ) -> Result<(), SetUpRefused>
+        ensures bad_depth { IsErrOf result BadDepth ↔ ¬ (IsDepth depth) }
+        ensures busy { IsErrOf result Busy ↔ IsDepth depth × (0 < length (D.held (inner_of self.old))) }
+        ensures refused { OnErr result (self.new ≡ self.old) }
+        ensures sessions { OnOk result (D.sessions (inner_of self.new) ≡ arc_value sessions) }
+        ensures depth { OnOk result (D.limit (inner_of self.new) ≡ depth) }
+        ensures held { OnOk result (D.held (inner_of self.new) ≡ []) }
+        ensures stats { OnOk result (stats_of self.new ≡ no_stats) }
+        ensures log { OnOk result (D.log (inner_of self.new) ≡ option_map (λ l. []) (D.log (inner_of self.old))) }
+        ensures stalls { capped (D.stalls (inner_of self.new) + cuts_of self.new) ≡ capped (D.stalls (inner_of self.old) + cuts_of self.old) }
+        ensures order { D.ordered (inner_of self.old) → D.ordered (inner_of self.new) }
+
+        // The calls go on being counted where they were.
+        ensures enqueues { enqueues_of self.new ≡ enqueues_of self.old }
+        ensures dequeues { dequeues_of self.new ≡ dequeues_of self.old }
+        ensures cuts { cuts_of self.new ≡ cuts_of self.old }
+        ensures inner_stalls { D.stalls (inner_of self.new) ≡ D.stalls (inner_of self.old) }
+        ensures inner_stats { OnOk result (D.stats (inner_of self.new) ≡ no_stats) }
+    {
+        self.inner.set_up(alloc, kind, sessions, depth)?;
+        self.stats = Stats::new();
+        Ok(())
+    }
+
+    fn depth(&self) -> usize {
+        self.inner.depth()
+    }
+}

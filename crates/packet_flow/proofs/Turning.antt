@@ -1,0 +1,251 @@
+-- A turn: what the driver takes of the burst, and what is left on the way.
+use Rattle.std.proofs.Common.{◌≡◌, ◌<◌, ◌≤◌, ◌+◌, ◌-◌, ◌*◌, ◌^◌, ◌==◌, ◌++◌, ◌⊎◌, inl, inr, ℕ, Bool, true, false, true≢false, eqb-true, zero, suc, List, [], ◌∷◌, length, map, take, drop, option_map, refl, ap, sym, subst, ◌∙◌, arith, append_assoc, length-append, length-take}
+use Rattle.std.specs.Int.{from_bool}
+use Rattle.std.specs.Prelude.{Option, None, Some, Result, Ok, Err, IfErr, IsErrAnd}
+use Rattle.std.specs.List.{All, flat_map}
+use Rattle.std.proofs.lemmas.Bool.Decides.{nat_tests}
+use Rattle.std.proofs.lemmas.List.{append-nil, nil_from_length, length-map, map-append, take-append-drop}
+use Rattle.std.proofs.lemmas.List.Sums.{count_by-le-length}
+use Rattle.crypto_model.specs.Counts.{capped, Rose}
+use Rattle.crypto_op.specs.declared.spec.Card.{Card}
+use Rattle.crypto_op.specs.declared.op.Op.{Op}
+use Rattle.crypto_op.specs.Burst.{Burst}
+use Rattle.crypto_op.specs.Op.{Entry, IsFresh, entry_of}
+use Rattle.dev_core.specs.declared.driver.LogEntry.{LogEntry}
+use Rattle.dev_core.specs.Burst.{front_log, log_entry, rest_of}
+use Rattle.capture_io.specs.Capture.{Rec, first_place, view}
+use Rattle.capture_io.specs.Limits.{IsSmall}
+use Rattle.capture_io.specs.declared.header.Place.{Place}
+use Rattle.capture_io.specs.declared.header.ReadStop.{ReadStop}
+use Rattle.capture_io.specs.declared.header.Record.{Record}
+use Rattle.session_file.specs.declared.plan.Plan.{Plan}
+use Rattle.packet_plan.specs.Asked.{Asked, Passes, TooShort, Works, asked, inputs_of}
+use Rattle.packet_plan.specs.Answered.{Answered, answered_from}
+use Rattle.packet_flow.specs.declared.counts.Counts.{Counts}
+use Rattle.packet_flow.specs.declared.flow.FlowEnd.TheVariants as flow_end
+use Rattle.packet_flow.specs.declared.passage.Passage.{Passage}
+use Rattle.packet_flow.specs.declared.slots.Slot.{Slot}
+use Rattle.packet_flow.specs.declared.slots.Slot.TheVariants.{Open, Ready}
+use Rattle.packet_flow.specs.Counts.{counts_of}
+use Rattle.packet_flow.specs.Entries.{entry_for, entries_for, entries_from}
+use Rattle.packet_flow.specs.Flowed.{CutAt, answer_bytes}
+use Rattle.packet_flow.specs.Passage.{Before, Outside, HasTaken, IsUnderway, EndsAs, IsNew}
+use Rattle.packet_flow.specs.Reads.{GoesOn, HasRead, IsWholeStop}
+use Rattle.packet_flow.specs.Slots.{IsBetween, SlotsSay, WaitsAtFront, open_numbers}
+use Rattle.packet_flow.proofs.InSlots.{count-cons, one, same_told}
+use Rattle.packet_flow.proofs.WholeReading.{begun, read_on}
+
+-- ---- at most one operation for each record
+
+few_inputs : (n : ℕ) (a : Asked) → length (map (entry_for n) (inputs_of a)) ≤ 1
+few_inputs n Passes = omega arith
+few_inputs n TooShort = omega arith
+few_inputs n (Works card input) = omega arith
+
+pub length-entries_from : (plan : Plan) (n : ℕ) (rs : List Rec) → length (entries_from plan n rs) ≤ length rs
+unfolding entries_from
+length-entries_from plan n [] = omega arith
+length-entries_from plan n (r ∷ rs) =
+    let own : length (entries_for plan n r) ≤ 1 = few_inputs n (asked plan n r.packet) in
+    omega (arith, own, length-entries_from plan (n + 1) rs, length-append (entries_for plan n r) (entries_from plan (n + 1) rs))
+
+module _ (plan : Plan) (b : Before) (s_tells k_tells : Type 0) (p : Passage) (o : Outside) (u : IsUnderway plan b s_tells k_tells p o) where
+  pub few_taken : length u.taken + length p.burst.ops < 2 ^ 32
+  few_taken =
+      omega (arith, ap length u.queued, length-append u.taken (map log_entry p.burst.ops), length-map p.burst.ops (log_entry {C = Card}), length-entries_from plan 0 u.used, u.count, u.range)
+
+  pub few_held : length o.held + length p.burst.ops < 2 ^ 32
+  few_held = omega (arith, few_taken, u.few)
+
+-- ---- the first n of the burst are taken
+
+pub queued_on : (taken entries : List LogEntry) (n : ℕ) (burst rest : Burst (Op Card)) → rest ≡ rest_of n burst → taken ++ map log_entry burst.ops ≡ entries
+    → (taken ++ front_log n burst) ++ map log_entry rest.ops ≡ entries
+queued_on taken entries n burst rest is all =
+    let split : map log_entry burst.ops ≡ front_log n burst ++ map log_entry rest.ops =
+    ap (map log_entry) (sym (take-append-drop n burst.ops)) ∙ map-append log_entry (take n burst.ops) (drop n burst.ops)
+    ∙ ap (λ (x : Burst (Op Card)). front_log n burst ++ map log_entry x.ops) (sym is) in
+    append_assoc taken (front_log n burst) (map log_entry rest.ops) ∙ ap (λ (l : List LogEntry). taken ++ l) (sym split) ∙ all
+
+pub length-front_log : (n : ℕ) (burst : Burst (Op Card)) → n ≤ length burst.ops → length (front_log n burst) ≡ n
+length-front_log n burst within = omega (arith, length-map (take n burst.ops) (log_entry {C = Card}), length-take n burst.ops, within)
+
+log_on : (before : Option (List LogEntry)) (taken more : List LogEntry) (log log' : Option (List LogEntry)) → log ≡ option_map (λ l. taken) before
+    → log' ≡ option_map (λ l. l ++ more) log → log' ≡ option_map (λ l. taken ++ more) before
+log_on None taken more log log' is now = now ∙ ap (option_map (λ (l : List LogEntry). l ++ more)) is
+log_on (Some l) taken more log log' is now = now ∙ ap (option_map (λ (l : List LogEntry). l ++ more)) is
+
+pub device_on : (b : Before) (taken : List LogEntry) (n : ℕ) (burst : Burst (Op Card)) (enqueued enqueued' : ℕ) (log log' : Option (List LogEntry)) → n ≤ length burst.ops
+    → HasTaken b taken enqueued log → enqueued' ≡ capped (enqueued + n) → log' ≡ option_map (λ l. l ++ front_log n burst) log
+    → HasTaken b (taken ++ front_log n burst) enqueued' log'
+device_on b taken n burst enqueued enqueued' log log' within has now told = record {
+  enqueued_is = omega (arith, has.enqueued_is, now, length-append taken (front_log n burst), length-front_log n burst within);
+  log_is = log_on b.log taken (front_log n burst) log log' has.log_is told;
+}
+
+pub few_on : (taken : List LogEntry) (n m held held' : ℕ) (burst : Burst (Op Card)) → n ≤ length burst.ops → held ≤ length taken → m + held' ≡ held + n
+    → held' ≤ length (taken ++ front_log n burst)
+few_on taken n m held held' burst within few count = omega (arith, few, count, length-append taken (front_log n burst), length-front_log n burst within)
+
+-- accepted and returned, what is held, and what was enqueued
+pub moved_by : (n m held held' taken ops enqueued enqueued' : ℕ) → n ≤ ops → taken + ops < 2 ^ 32 → m + held' ≡ held + n → enqueued ≡ capped taken → enqueued' ≡ capped (enqueued + n)
+    → (n + m) + held' + 2 * enqueued ≡ held + 2 * enqueued'
+moved_by n m held held' taken ops enqueued enqueued' within few count is now =
+    let before : enqueued ≡ taken = omega (arith, is, few) in
+    let after : enqueued' ≡ enqueued + n = omega (arith, now, before, within, few) in
+    omega (arith, count, after)
+
+-- ---- what waits at the front is held, or in the burst
+
+front_some : (plan : Plan) (used : List Rec) (first : ℕ) (ss : List Slot) (entries : List (Entry Card)) → WaitsAtFront ss → 0 < length ss
+    → IsBetween plan used first ss entries → 0 < length entries
+unfolding open_numbers
+front_some plan used first [] entries waits some b = absurd (omega (arith, some))
+front_some plan used first (Open kept ∷ ss) entries waits some b =
+    let own = count-cons (λ (x : ℕ). x == first) first (open_numbers (first + 1) ss) in
+    let once : one (first == first) ≡ 1 = ap one (same_told first) in
+    omega (arith, own, once, b.waits first, count_by-le-length (λ (e : Entry Card). e.cargo.packet == first) entries)
+front_some plan used first (Ready w ∷ ss) entries waits some b = absurd waits
+
+pub some_moves : {X : Type 0} (f : X → Entry Card) (plan : Plan) (used : List Rec) (first : ℕ) (ss : List Slot) (held : List (Entry Card)) (ops : List X) → WaitsAtFront ss → 0 < length ss
+    → IsBetween plan used first ss (held ++ map f ops) → 0 < length held + length ops
+some_moves f plan used first ss held ops waits some b =
+    omega (arith, front_some plan used first ss (held ++ map f ops) waits some b, length-append held (map f ops), length-map ops f)
+
+-- ---- what is written, in the byte order of the capture
+
+pub written_by : (big big' : Bool) → big ≡ big' → (answers : List Answered) (n m : ℕ) (base old new : List ℕ) → old ≡ base ++ flat_map (answer_bytes big) (take n answers)
+    → (old ≡ base ++ flat_map (answer_bytes big') (take n answers) → new ≡ base ++ flat_map (answer_bytes big') (take m answers))
+    → new ≡ base ++ flat_map (answer_bytes big) (take m answers)
+written_by big big' same answers n m base old new is next =
+    let order : (k : ℕ) → base ++ flat_map (answer_bytes big) (take k answers) ≡ base ++ flat_map (answer_bytes big') (take k answers) =
+    λ k. ap (λ (x : Bool). base ++ flat_map (answer_bytes x) (take k answers)) same in
+    next (is ∙ order n) ∙ sym (order m)
+
+pub cut_by : (big big' : Bool) → big ≡ big' → (answers : List Answered) (n m : ℕ) (base old new : List ℕ) → old ≡ base ++ flat_map (answer_bytes big) (take n answers)
+    → (old ≡ base ++ flat_map (answer_bytes big') (take n answers) → CutAt big' answers m base new) → CutAt big answers m base new
+cut_by big big' same answers n m base old new is next =
+    subst (λ (x : Bool). CutAt x answers m base new) (sym same) (next (is ∙ ap (λ (x : Bool). base ++ flat_map (answer_bytes x) (take n answers)) same))
+
+-- ---- nothing is left to do
+
+pub all_read : (n : ℕ) (waiting : List Record) (stop : Option ReadStop) → (0 < n) ⊎ ((waiting ≡ []) × (s : ReadStop) × (stop ≡ Some s)) → n ≡ 0 → waiting ≡ []
+all_read n waiting stop (inl some) none = absurd (omega (arith, some, none))
+all_read n waiting stop (inr read) none = read.0
+
+pub no_items : {X : Type 0} (n : ℕ) (xs : List X) (empty : Bool) → n ≡ length xs → empty ≡ (n == 0) → empty ≡ true → xs ≡ []
+no_items n xs empty count is told = nil_from_length xs (omega (arith, count, eqb-true n 0 (sym is ∙ told)))
+
+pub some_items : {X : Type 0} (n : ℕ) (xs : List X) (empty : Bool) → n ≡ length xs → empty ≡ (n == 0) → empty ≡ false → 0 < length xs
+some_items n [] empty count is told =
+    let none : n ≡ 0 = omega (arith, count) in
+    absurd (true≢false (sym (is ∙ ap (λ (k : ℕ). k == 0) none) ∙ told))
+some_items n (x ∷ xs) empty count is told = omega arith
+
+pub no_fault : (s_tells : Type 0) (left : List ℕ) (stop : ReadStop) → IsWholeStop stop × (s_tells → stop ≡ ReadStop.End → left ≡ []) → stop ≡ ReadStop.Fault → ⊥
+no_fault s_tells left stop stopped is = subst IsWholeStop is stopped.0
+
+-- ---- the way out by `?`
+
+pub if_err_at : {T E : Type 0} (r : Result T E) (e : E) (P : E → Type 0) → IsErrAnd r (λ x. x ≡ e) → P e → IfErr r P
+if_err_at (Ok x) e P is p = tt
+if_err_at (Err x) e P is p = subst P (sym is) p
+
+pub not_err_at : {T E : Type 0} (r : Result T E) (e x : E) → IsErrAnd r (λ y. y ≡ e) → (e ≡ x → ⊥) → r ≡ Err x → ⊥
+not_err_at (Ok y) e x is other at = is
+not_err_at (Err y) e x is other at = other (sym is ∙ (let same : y ≡ x = cc in same))
+
+-- ---- how long it may go on
+
+pub enqueued_few : (plan : Plan) (b : Before) (s_tells k_tells : Type 0) (p : Passage) (o : Outside) → IsUnderway plan b s_tells k_tells p o → o.enqueued < 2 ^ 32
+enqueued_few plan b s_tells k_tells p o u = omega (arith, few_taken plan b s_tells k_tells p o u, u.device.enqueued_is)
+
+counted : (moved r : ℕ) → r ≡ from_bool (moved == 0) → ((moved ≡ 0) × (r ≡ 1)) ⊎ ((0 < moved) × (r ≡ 0))
+counted zero r is = inl (refl, is ∙ ap from_bool (same_told 0))
+counted (suc m) r is =
+    let other : (suc m == 0) ≡ false = grind (arith, nat_tests) in
+    inr (omega arith, is ∙ ap from_bool other)
+
+pub counted_few : (moved r : ℕ) → r ≡ from_bool (moved == 0) → r ≤ 1
+counted_few moved r is = elim (counted moved r is) [ inl still ↦ omega (arith, still.1) | inr some ↦ omega (arith, some.1) ]
+
+-- the turns that moved nothing are counted by the driver too
+pub stalled_on : (first old now stalled moved r : ℕ) → r ≡ from_bool (moved == 0) → capped (first + stalled) ≤ old → old ≤ now → (moved ≡ 0 → Rose old now)
+    → capped (first + (stalled + r)) ≤ now
+stalled_on first old now stalled moved r is before later cause =
+    elim (counted moved r is) [ inl still ↦ omega (arith, before, later, still.1, cause still.0) | inr some ↦ omega (arith, before, later, some.1) ]
+
+-- a turn moves something, or there is one less that may move nothing
+abbrev pub turns_left : ℕ → ℕ → ℕ → ℕ
+turns_left held enqueued stalled = (2 ^ 33 + held - 2 * enqueued) + (4096 * (2 ^ 32 + 1) - stalled)
+
+pub fewer_left : (held held' enqueued enqueued' stalled moved r : ℕ) → r ≡ from_bool (moved == 0) → enqueued < 2 ^ 32 → enqueued' < 2 ^ 32 → moved + held' + 2 * enqueued ≡ held + 2 * enqueued'
+    → stalled + r < 4096 * (1 + enqueued') → turns_left held' enqueued' (stalled + r) < turns_left held enqueued stalled
+fewer_left held held' enqueued enqueued' stalled moved r is few few' balance within =
+    elim (counted moved r is) [ inl still ↦ omega (arith, still.0, still.1, few, few', balance, within) | inr some ↦ omega (arith, some.0, some.1, few, few', balance, within) ]
+
+-- ---- before the first turn
+
+-- nothing was begun
+pub ends_unbegun : (plan : Plan) (b : Before) (s_tells k_tells : Type 0) (o : Outside) (counts : Counts) → HasTaken b [] o.enqueued o.log → o.written ≡ b.base → counts ≡ counts_of []
+    → EndsAs plan b s_tells k_tells flow_end.OutOfMemory counts o
+ends_unbegun plan b s_tells k_tells o counts device written same told tells rs rest all = (
+  [],
+  device,
+  record {
+    n = 0;
+    within = omega arith;
+    counts_are = same;
+    written = written ∙ sym (append-nil b.base);
+    k = 0;
+    front = refl;
+    whole = λ w. absurd w;
+  },
+)
+
+none_between : (plan : Plan) (first : ℕ) (ss : List Slot) (entries : List (Entry Card)) → first ≡ 0 → ss ≡ [] → entries ≡ [] → IsBetween plan [] first ss entries
+unfolding SlotsSay open_numbers
+none_between plan first ss entries first_is ss_are entries_are =
+    let at_first : IsBetween plan [] 0 [] [] = record { begun = omega arith; slots = tt; made = λ k d lt. absurd (omega (arith, lt)); waits = λ n. refl } in
+    subst (λ (n : ℕ). IsBetween plan [] n ss entries) (sym first_is) (subst (λ (l : List Slot). IsBetween plan [] 0 l entries) (sym ss_are) (subst (IsBetween plan [] 0 []) (sym entries_are) at_first))
+
+none_asked : (plan : Plan) → entries_from plan 0 [] ≡ []
+unfolding entries_from
+none_asked plan = refl
+
+none_read : (big : Bool) (bytes left : List ℕ) (place : Place) (waiting : List Record) (stop : Option ReadStop) → place ≡ first_place → left ≡ bytes → waiting ≡ [] → stop ≡ None
+    → GoesOn big bytes ([] ++ map view waiting) place left stop
+none_read big bytes left place waiting stop place_is left_is waiting_is stop_is =
+    subst (GoesOn big bytes ([] ++ map view waiting) place left) (sym stop_is)
+    (read_on big bytes left [] ([] ++ map view waiting) first_place place (ap (map view) waiting_is) place_is (subst (HasRead big bytes [] first_place) (sym left_is) (begun big bytes)))
+
+none_written : (big : Bool) (plan : Plan) (n : ℕ) (base new : List ℕ) → n ≡ 0 → new ≡ base → new ≡ base ++ flat_map (answer_bytes big) (take n (answered_from plan 0 []))
+none_written big plan n base new none is =
+    is ∙ sym (append-nil base) ∙ ap (λ (k : ℕ). base ++ flat_map (answer_bytes big) (take k (answered_from plan 0 []))) (sym none)
+
+pub new_underway : (plan : Plan) (b : Before) (s_tells k_tells : Type 0) (size : ℕ) (p : Passage) (o : Outside) → 1 ≤ size → IsNew size p → HasTaken b [] o.enqueued o.log
+    → o.left ≡ b.bytes → o.written ≡ b.base → o.held ≡ [] → IsUnderway plan b s_tells k_tells p o
+new_underway plan b s_tells k_tells size p o some new device left written held =
+    let burst : p.burst.ops ≡ [] = ap (λ (x : Burst (Op Card)). x.ops) new.burst in
+    let offered : map (log_entry {C = Card}) p.burst.ops ≡ [] = ap (map log_entry) burst in
+    record {
+      used = [];
+      taken = [];
+      reads = λ told. none_read b.big b.bytes o.left p.place p.waiting.items p.stop new.place left new.waiting new.stop;
+      writes = λ told. none_written b.big plan p.first b.base o.written new.first written;
+      between = none_between plan p.first p.slots.items (o.held ++ map entry_of p.burst.ops) new.first new.slots
+          (ap (λ (l : List (Entry Card)). l ++ map entry_of p.burst.ops) held ∙ ap (map entry_of) burst);
+      counts = new.counts ∙ ap (λ (k : ℕ). counts_of (take k (answered_from plan 0 []))) (sym new.first);
+      queued = offered ∙ sym (none_asked plan);
+      device = device;
+      few = omega (arith, ap length held);
+      fresh = subst (All IsFresh) (sym burst) (λ k d lt. absurd (omega (arith, lt)));
+      front = subst WaitsAtFront (sym new.slots) tt;
+      stopped = λ stop is. absurd (let no : Some stop ≡ None = sym is ∙ new.stop in cc);
+      small = subst (All IsSmall) (sym new.waiting) (λ k d lt. absurd (omega (arith, lt)));
+      count = omega (arith, ap length new.waiting, ap (λ (x : Place). x.records) new.place);
+      range = omega (arith, ap (λ (x : Place). x.records) new.place);
+      place = omega (arith, ap (λ (x : Place). x.at) new.place);
+      back = ap (λ (x : Burst (Op Card)). x.ops) new.back;
+      sizes = (omega (arith, some, ap (λ (x : Burst (Op Card)). x.cap) new.burst), omega (arith, some, ap (λ (x : Burst (Op Card)). x.cap) new.back));
+    }

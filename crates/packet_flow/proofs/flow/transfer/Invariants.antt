@@ -1,0 +1,21 @@
+use Rattle.std.proofs.Common.{◌≡◌, ◌+◌, ◌*◌, ◌<◌, ◌≤◌, length}
+use Rattle.crypto_model.specs.Counts.{capped}
+use Rattle.packet_flow.specs.Passage.{IsUnderway}
+use Rattle.packet_flow.proofs.Turning.{turns_left}
+use Rattle.packet_flow.proofs.flow.transfer.Given as goal
+
+abbrev pub invariant-loop-moved : goal.invariant-loop-moved
+invariant-loop-moved g l = record {
+  underway : IsUnderway l.plan (record { big = l.header.big; bytes = g.S.Source.left l.fn.src; base = g.K.Sink.written l.fn.out; log = g.D.Driver.log l.fn.dev }) g.S.Source.tells g.K.Sink.tells l.passage
+      (record { left = g.S.Source.left l.src; written = g.K.Sink.written l.out; held = g.D.Driver.held l.dev; enqueued = (g.D.Driver.stats l.dev).enqueued; log = g.D.Driver.log l.dev });
+  sessions : g.D.Driver.sessions l.dev ≡ g.D.Driver.sessions l.fn.dev;
+  follows : g.D.Driver.follows l.fn.dev l.dev;
+  later : g.D.Driver.stalls l.fn.dev ≤ g.D.Driver.stalls l.dev;
+  stalls : capped (g.D.Driver.stalls l.fn.dev + l.stalled) ≤ g.D.Driver.stalls l.dev;
+  patience : l.stalled < 4096 * (1 + (g.D.Driver.stats l.dev).enqueued);
+  read_later : g.S.Source.faults l.fn.src ≤ g.S.Source.faults l.src;
+  write_later : g.K.Sink.faults l.fn.out ≤ g.K.Sink.faults l.out;
+}
+
+abbrev pub decreases-loop-moved : goal.decreases-loop-moved
+decreases-loop-moved g l = turns_left (length (g.D.Driver.held l.dev)) (g.D.Driver.stats l.dev).enqueued l.stalled

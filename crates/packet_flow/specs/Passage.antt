@@ -1,0 +1,83 @@
+-- A capture on its way: what was read, begun, taken and written so far.
+use Rattle.std.specs.Prelude.{◌≡◌, ◌<◌, ◌≤◌, ◌+◌, ◌*◌, ◌^◌, ◌++◌, ℕ, Bool, List, [], length, map, take, Option, None, Some, option_map}
+use Rattle.std.specs.List.{All, flat_map}
+use Rattle.crypto_model.specs.Counts.{capped}
+use Rattle.crypto_op.specs.declared.spec.Card.{Card}
+use Rattle.crypto_op.specs.Op.{Entry, IsFresh, entry_of}
+use Rattle.dev_core.specs.declared.driver.LogEntry.{LogEntry}
+use Rattle.dev_core.specs.Burst.{log_entry}
+use Rattle.capture_io.specs.Capture.{Rec, Rest, Records, first_place, view}
+use Rattle.capture_io.specs.Limits.{IsSmall}
+use Rattle.session_file.specs.declared.plan.Plan.{Plan}
+use Rattle.packet_plan.specs.Answered.{answered_from}
+use Rattle.packet_flow.specs.declared.counts.Counts.{Counts}
+use Rattle.packet_flow.specs.declared.passage.Passage.{Passage}
+use Rattle.packet_flow.specs.declared.flow.FlowEnd.{FlowEnd}
+use Rattle.packet_flow.specs.Counts.{counts_of}
+use Rattle.packet_flow.specs.Entries.{entries_from}
+use Rattle.packet_flow.specs.Flowed.{EndsWhole, Flowed, answer_bytes}
+use Rattle.capture_io.specs.declared.header.ReadStop.{ReadStop}
+use Rattle.packet_flow.specs.Reads.{GoesOn, IsWholeStop}
+use Rattle.packet_flow.specs.Slots.{IsBetween, WaitsAtFront}
+
+-- what there was before the first packet: the capture behind its header, what was written, and the driver's log
+pub record Before : Type 0 where
+  pub big : Bool
+  pub bytes : List ℕ
+  pub base : List ℕ
+  pub log : Option (List LogEntry)
+
+-- what there is now outside: what is left of the capture, what is written, and what the driver holds and counts
+pub record Outside : Type 0 where
+  pub left : List ℕ
+  pub written : List ℕ
+  pub held : List (Entry Card)
+  pub enqueued : ℕ
+  pub log : Option (List LogEntry)
+
+-- the driver counts these operations, and its log tells them, if it tells any
+pub record HasTaken (b : Before) (taken : List LogEntry) (enqueued : ℕ) (log : Option (List LogEntry)) : Type 0 where
+  pub enqueued_is : enqueued ≡ capped (length taken)
+  pub log_is : log ≡ option_map (λ l. taken) b.log
+
+-- On the way: `used` are the records that were begun, and `taken` the operations that the driver took. What was
+-- read or written is known where source or sink tell it.
+pub record IsUnderway (plan : Plan) (b : Before) (s_tells k_tells : Type 0) (p : Passage) (o : Outside) : Type 0 where
+  pub used : List Rec
+  pub taken : List LogEntry
+  pub reads : s_tells → GoesOn b.big b.bytes (used ++ map view p.waiting.items) p.place o.left p.stop
+  pub writes : k_tells → o.written ≡ b.base ++ flat_map (answer_bytes b.big) (take p.first (answered_from plan 0 used))
+  pub between : IsBetween plan used p.first p.slots.items (o.held ++ map entry_of p.burst.ops)
+  pub counts : p.counts ≡ counts_of (take p.first (answered_from plan 0 used))
+  pub queued : taken ++ map log_entry p.burst.ops ≡ entries_from plan 0 used
+  pub device : HasTaken b taken o.enqueued o.log
+  pub few : length o.held ≤ length taken
+  pub fresh : All IsFresh p.burst.ops
+  pub front : WaitsAtFront p.slots.items
+  pub stopped : (stop : ReadStop) → p.stop ≡ Some stop → IsWholeStop stop × (s_tells → stop ≡ ReadStop.End → o.left ≡ [])
+  pub small : All IsSmall p.waiting.items
+  pub count : length used + length p.waiting.items ≡ p.place.records
+  pub range : p.place.records < 2 ^ 32
+  pub place : p.place.at ≤ 24 + 262160 * p.place.records
+  pub back : p.back.ops ≡ []
+  pub sizes : (0 < p.burst.cap) × (0 < p.back.cap)
+
+-- It ended so, by every reading of the capture.
+abbrev pub EndsAs : Plan → Before → Type 0 → Type 0 → FlowEnd → Counts → Outside → Type 0
+EndsAs plan b s_tells k_tells end counts o = s_tells → k_tells → (rs : List Rec) (rest : Rest) → Records b.big first_place b.bytes rs rest
+    → (taken : List LogEntry) × HasTaken b taken o.enqueued o.log × Flowed plan b.big rs rest end counts b.base o.written taken
+
+-- nothing is read yet
+pub record IsNew (size : ℕ) (p : Passage) : Type 0 where
+  pub place : p.place ≡ first_place
+  pub stop : p.stop ≡ None
+  pub waiting : p.waiting.items ≡ []
+  pub slots : p.slots.items ≡ []
+  pub first : p.first ≡ 0
+  pub counts : p.counts ≡ counts_of []
+  pub burst : p.burst ≡ record { cap = size; ops = [] }
+  pub back : p.back ≡ record { cap = size; ops = [] }
+
+-- an end before the capture is read, written and worked on whole
+abbrev pub IsEarly : FlowEnd → Type 0
+IsEarly end = EndsWhole end → ⊥

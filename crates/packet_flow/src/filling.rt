@@ -1,0 +1,128 @@
+//! Records are begun, until a burst is full or the capture ends.
+ghost use Rattle.std.specs.Prelude.{◌≡◌, ◌<◌, ◌≤◌, ◌+◌, ◌⊎◌, [], length, IfErr, OnOk, Some, None, Err};
+ghost use Rattle.crypto_model.specs.Counts.{Rose};
+ghost use Rattle.capture_io.specs.Capture.{view};
+ghost use Rattle.capture_io.specs.Limits.{IsSmall};
+ghost use Rattle.packet_flow.specs.Passage.{Before, EndsAs, IsEarly, IsUnderway, Outside};
+ghost use Rattle.capture_io.specs.declared.header.ReadStop.{ReadStop};
+ghost use Rattle.packet_flow.specs.Filling.{AddsSlot, left_to_begin};
+
+use crate::flow::FlowEnd;
+use crate::passage::Passage;
+use crate::reading::read_window;
+use crate::slots::Slot;
+use crate::writing::write_ready;
+use capture_io::{Header, ReadStop, Record, Sink, Source};
+use crypto_model::OutOfMemory;
+use crypto_op::{Card, OpBurst};
+use packet_plan::{ReadyPlan, Work};
+use std::alloc::Global;
+use std::collections::VecDeque;
+
+// Begins record `n`: it gets the next slot and, where it needs one, an operation of the burst.
+fn begin(
+    alloc: Global,
+    plan: &ReadyPlan,
+    n: u32,
+    rec: Record,
+    slots: &mut VecDeque<Slot>,
+    burst: &mut OpBurst<Card>,
+) -> Result<(), OutOfMemory>
+    requires small { IsSmall rec }
+    requires room { length burst.old.ops < burst.old.cap }
+    ensures { OnOk result (AddsSlot plan.now n (view rec) slots.old.items slots.new.items burst.old burst.new) }
+{
+    match plan.begin(alloc, n, rec)? {
+        Work::Ready(written) => {
+            let Ok(()) = slots.push_back(Slot::Ready(written)) else {
+                return Err(OutOfMemory);
+            };
+        }
+        Work::Needs(kept, op) => {
+            let Ok(()) = slots.push_back(Slot::Open(kept)) else {
+                return Err(OutOfMemory);
+            };
+            burst.push(op);
+        }
+    }
+    Ok(())
+}
+
+// Begins the first record that waits or, where none does, reads on.
+fn advance<S: Source, K: Sink>(
+    alloc: Global,
+    plan: &ReadyPlan,
+    header: &Header,
+    src: &mut S,
+    out: &mut K,
+    passage: &mut Passage,
+) -> Result<(), FlowEnd>
+    requires underway { (b : Before) × (o : Outside) × (b.big ≡ header.now.big) × (o.left ≡ S.left src.old) × (o.written ≡ K.written out.old) × IsUnderway plan.now b S.tells K.tells passage.old o }
+    requires room { length passage.old.burst.ops < passage.old.burst.cap }
+    requires some { (0 < length passage.old.waiting.items) ⊎ (passage.old.stop ≡ None) }
+    ensures underway { (b : Before) (o : Outside) → b.big ≡ header.now.big → o.left ≡ S.left src.old → o.written ≡ K.written out.old → IsUnderway plan.now b S.tells K.tells passage.old o
+        → OnOk result (IsUnderway plan.now b S.tells K.tells passage.new (record o { left = S.left src.new; written = K.written out.new })) }
+    ensures ends { (b : Before) (o : Outside) → b.big ≡ header.now.big → o.left ≡ S.left src.old → o.written ≡ K.written out.old → IsUnderway plan.now b S.tells K.tells passage.old o
+        → IfErr result (λ end. EndsAs plan.now b S.tells K.tells end passage.new.counts (record o { left = S.left src.new; written = K.written out.new })) }
+    ensures smaller { OnOk result (left_to_begin passage.new < left_to_begin passage.old) }
+    ensures read_later { S.faults src.old ≤ S.faults src.new }
+    ensures read_cause { result ≡ Err (FlowEnd.Stopped ReadStop.Fault) → Rose (S.faults src.old) (S.faults src.new) }
+    ensures write_later { K.faults out.old ≤ K.faults out.new }
+    ensures write_cause { result ≡ Err FlowEnd.WriteFault → Rose (K.faults out.old) (K.faults out.new) }
+    ensures early { IfErr result IsEarly }
+    ensures never { ¬ (result ≡ Err FlowEnd.Stalled) }
+{
+    let Some(rec) = passage.waiting.pop_front() else {
+        passage.stop = read_window(alloc, src, header, &mut passage.place, &mut passage.waiting);
+        let Some(stop) = passage.stop else {
+            return Ok(());
+        };
+        return match stop {
+            ReadStop::Fault => Err(FlowEnd::Stopped(ReadStop::Fault)),
+            ReadStop::OutOfMemory => Err(FlowEnd::OutOfMemory),
+            _ => Ok(()),
+        };
+    };
+    let n = passage.first + passage.slots.len() as u32;
+    begin(alloc, plan, n, rec, &mut passage.slots, &mut passage.burst)?;
+    write_ready(
+        out,
+        header,
+        &mut passage.slots,
+        &mut passage.first,
+        &mut passage.counts,
+    )?;
+    Ok(())
+}
+
+/// Where the burst is empty, begins records until it is full or the capture ends. Records are written as soon as
+/// they are ready and all before them are written.
+pub(crate) fn fill<S: Source, K: Sink>(
+    alloc: Global,
+    plan: &ReadyPlan,
+    header: &Header,
+    src: &mut S,
+    out: &mut K,
+    passage: &mut Passage,
+) -> Result<(), FlowEnd>
+    requires underway { (b : Before) × (o : Outside) × (b.big ≡ header.now.big) × (o.left ≡ S.left src.old) × (o.written ≡ K.written out.old) × IsUnderway plan.now b S.tells K.tells passage.old o }
+    ensures underway { (b : Before) (o : Outside) → b.big ≡ header.now.big → o.left ≡ S.left src.old → o.written ≡ K.written out.old → IsUnderway plan.now b S.tells K.tells passage.old o
+        → OnOk result (IsUnderway plan.now b S.tells K.tells passage.new (record o { left = S.left src.new; written = K.written out.new })) }
+    ensures ends { (b : Before) (o : Outside) → b.big ≡ header.now.big → o.left ≡ S.left src.old → o.written ≡ K.written out.old → IsUnderway plan.now b S.tells K.tells passage.old o
+        → IfErr result (λ end. EndsAs plan.now b S.tells K.tells end passage.new.counts (record o { left = S.left src.new; written = K.written out.new })) }
+    ensures full { OnOk result ((0 < length passage.new.burst.ops) ⊎ ((passage.new.waiting.items ≡ []) × (stop : ReadStop) × (passage.new.stop ≡ Some stop))) }
+    ensures read_later { S.faults src.old ≤ S.faults src.new }
+    ensures read_cause { result ≡ Err (FlowEnd.Stopped ReadStop.Fault) → Rose (S.faults src.old) (S.faults src.new) }
+    ensures write_later { K.faults out.old ≤ K.faults out.new }
+    ensures write_cause { result ≡ Err FlowEnd.WriteFault → Rose (K.faults out.old) (K.faults out.new) }
+    ensures early { IfErr result IsEarly }
+    ensures never { ¬ (result ≡ Err FlowEnd.Stalled) }
+{
+    if passage.burst.len() > 0 {
+        return Ok(());
+    }
+    while passage.burst.room() > 0 && (!passage.waiting.is_empty() || passage.stop.is_none()) {
+        advance(alloc, plan, header, src, out, passage)?;
+    }
+    Ok(())
+}

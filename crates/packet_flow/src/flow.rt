@@ -1,0 +1,177 @@
+//! A whole capture through a queue pair.
+ghost use Rattle.std.specs.Prelude.{◌≡◌, ◌+◌, ◌*◌, ◌<◌, ◌≤◌, ◌⊎◌, [], ◌++◌, List, ℕ, Bool, length, option_map, IfErr, IfOk, OnOk, Err};
+ghost use Rattle.crypto_model.specs.Counts.{capped, Rose};
+ghost use Rattle.crypto_op.specs.declared.spec.Card.{Card};
+ghost use Rattle.dev_core.specs.Stats.{no_stats};
+ghost use Rattle.packet_plan.specs.Asked.{sessions_of};
+ghost use Rattle.packet_flow.specs.Passage.{Before, EndsAs, IsUnderway, Outside};
+ghost use Rattle.packet_flow.specs.Turns.{NeverIdle};
+
+use crate::counts::Counts;
+use crate::filling::fill;
+use crate::passage::Passage;
+use crate::turn::turn;
+use crate::writing::write_ready;
+use capture_io::{Header, ReadStop, Sink, Source, WriteFault};
+use crypto_model::OutOfMemory;
+use crypto_op::Card;
+use dev_core::Driver;
+use packet_plan::ReadyPlan;
+use std::alloc::Global;
+
+// So many turns that move nothing are suffered, and as many more for each operation that was accepted.
+const PATIENCE: u64 = 4096;
+
+/// Why a flow ended.
+#[derive(Clone, Copy, Debug, PartialEq, Eq)]
+pub enum FlowEnd {
+    /// The capture was read up to this stop. Where it is neither a fault nor want of memory, all records before it
+    /// were answered and written.
+    Stopped(ReadStop),
+    /// A write failed.
+    WriteFault,
+    /// The driver stalled in as many turns as it may.
+    Stalled,
+    OutOfMemory,
+}
+
+impl From<OutOfMemory> for FlowEnd {
+    ghost use Rattle.packet_flow.specs.declared.flow.FlowEnd.TheVariants.{OutOfMemory};
+
+    ghost from_gives = { λ _ e. e ≡ OutOfMemory };
+
+    fn from(_error: OutOfMemory) -> FlowEnd {
+        FlowEnd::OutOfMemory
+    }
+}
+
+impl From<WriteFault> for FlowEnd {
+    ghost use Rattle.packet_flow.specs.declared.flow.FlowEnd.TheVariants.{WriteFault};
+
+    ghost from_gives = { λ _ e. e ≡ WriteFault };
+
+    fn from(_fault: WriteFault) -> FlowEnd {
+        FlowEnd::WriteFault
+    }
+}
+
+// Fills the burst where it is empty, and lets the driver take one turn: how many operations moved.
+fn step<S: Source, K: Sink, D: Driver<Card>>(
+    alloc: Global,
+    plan: &ReadyPlan,
+    header: &Header,
+    src: &mut S,
+    out: &mut K,
+    dev: &mut D,
+    passage: &mut Passage,
+) -> Result<u64, FlowEnd>
+    requires sessions { D.sessions dev.old ≡ sessions_of plan.now }
+    requires works { NeverIdle D.admits D.held dev.old }
+    requires underway { (b : Before) × (b.big ≡ header.now.big) × IsUnderway plan.now b S.tells K.tells passage.old (record { left = S.left src.old; written = K.written out.old; held = D.held dev.old; enqueued = (D.stats dev.old).enqueued; log = D.log dev.old }) }
+    ensures underway { (b : Before) → b.big ≡ header.now.big → IsUnderway plan.now b S.tells K.tells passage.old (record { left = S.left src.old; written = K.written out.old; held = D.held dev.old; enqueued = (D.stats dev.old).enqueued; log = D.log dev.old })
+        → OnOk result (IsUnderway plan.now b S.tells K.tells passage.new (record { left = S.left src.new; written = K.written out.new; held = D.held dev.new; enqueued = (D.stats dev.new).enqueued; log = D.log dev.new })) }
+    ensures ends { (b : Before) → b.big ≡ header.now.big → IsUnderway plan.now b S.tells K.tells passage.old (record { left = S.left src.old; written = K.written out.old; held = D.held dev.old; enqueued = (D.stats dev.old).enqueued; log = D.log dev.old })
+        → IfErr result (λ end. EndsAs plan.now b S.tells K.tells end passage.new.counts (record { left = S.left src.new; written = K.written out.new; held = D.held dev.new; enqueued = (D.stats dev.new).enqueued; log = D.log dev.new })) }
+    ensures moved { IfOk result (λ n. n + length (D.held dev.new) + 2 * (D.stats dev.old).enqueued ≡ length (D.held dev.old) + 2 * (D.stats dev.new).enqueued) }
+    ensures cause { IfOk result (λ n. n ≡ 0 → Rose (D.stalls dev.old) (D.stalls dev.new)) }
+    ensures ended { S.tells → result ≡ Err (FlowEnd.Stopped ReadStop.End) → S.left src.new ≡ [] }
+    ensures never { ¬ (result ≡ Err FlowEnd.Stalled) }
+    ensures stalls { D.stalls dev.old ≤ D.stalls dev.new }
+    ensures sessions { D.sessions dev.new ≡ D.sessions dev.old }
+    ensures follows { D.follows dev.old dev.new }
+    ensures read_later { S.faults src.old ≤ S.faults src.new }
+    ensures read_cause { result ≡ Err (FlowEnd.Stopped ReadStop.Fault) → Rose (S.faults src.old) (S.faults src.new) }
+    ensures write_later { K.faults out.old ≤ K.faults out.new }
+    ensures write_cause { result ≡ Err FlowEnd.WriteFault → Rose (K.faults out.old) (K.faults out.new) }
+{
+    fill(alloc, plan, header, src, out, passage)?;
+    if passage.burst.len() == 0 && passage.slots.is_empty() {
+        return match passage.stop {
+            Some(stop) => Err(FlowEnd::Stopped(stop)),
+            None => unreachable!(),
+        };
+    }
+    let (accepted, returned) = turn(
+        plan,
+        dev,
+        &mut passage.burst,
+        &mut passage.slots,
+        passage.first,
+        &mut passage.back,
+    );
+    write_ready(
+        out,
+        header,
+        &mut passage.slots,
+        &mut passage.first,
+        &mut passage.counts,
+    )?;
+    Ok(accepted as u64 + returned as u64)
+}
+
+/// How a flow ended, and what was written by then.
+#[derive(Clone, Copy, Debug, PartialEq, Eq)]
+pub struct Flow {
+    pub end: FlowEnd,
+    pub counts: Counts,
+}
+
+/// Sends the packets of a capture, behind its header, through a driver: the plan makes operations of them, which are
+/// offered in bursts of at most `size`, the rest of a burst before a new one is begun, and the records are written in
+/// their order as soon as they are answered. The driver holds nothing, and has the plan's sessions.
+///
+/// A turn that moves nothing is one in which the driver stalled. It may do so 4,096 times, and as often again for each
+/// operation that it accepted.
+pub fn transfer<S: Source, K: Sink, D: Driver<Card>>(
+    alloc: Global,
+    plan: &ReadyPlan,
+    size: usize,
+    header: &Header,
+    src: &mut S,
+    out: &mut K,
+    dev: &mut D,
+) -> Flow
+    requires size { (1 ≤ size) × (size ≤ 4096) }
+    requires sessions { D.sessions dev.old ≡ sessions_of plan.now }
+    requires idle { D.held dev.old ≡ [] }
+    requires stats { D.stats dev.old ≡ no_stats }
+    requires log { D.log dev.old ≡ option_map (λ l. []) (D.log dev.old) }
+    requires works { (d : D) → D.follows dev.old d → NeverIdle D.admits D.held d }
+    ensures ends { EndsAs plan.now (record { big = header.now.big; bytes = S.left src.old; base = K.written out.old; log = D.log dev.old }) S.tells K.tells result.end result.counts
+        (record { left = S.left src.new; written = K.written out.new; held = D.held dev.new; enqueued = (D.stats dev.new).enqueued; log = D.log dev.new }) }
+    ensures ended { S.tells → result.end ≡ FlowEnd.Stopped ReadStop.End → S.left src.new ≡ [] }
+    ensures stalled { result.end ≡ FlowEnd.Stalled → capped (D.stalls dev.old + 4096 * (1 + (D.stats dev.new).enqueued)) ≤ D.stalls dev.new }
+    ensures stalls { D.stalls dev.old ≤ D.stalls dev.new }
+    ensures sessions { D.sessions dev.new ≡ D.sessions dev.old }
+    ensures follows { D.follows dev.old dev.new }
+    ensures read_later { S.faults src.old ≤ S.faults src.new }
+    ensures read_cause { result.end ≡ FlowEnd.Stopped ReadStop.Fault → Rose (S.faults src.old) (S.faults src.new) }
+    ensures write_later { K.faults out.old ≤ K.faults out.new }
+    ensures write_cause { result.end ≡ FlowEnd.WriteFault → Rose (K.faults out.old) (K.faults out.new) }
+{
+    let Ok(mut passage) = Passage::new(alloc, size) else {
+        return Flow {
+            end: FlowEnd::OutOfMemory,
+            counts: Counts::new(),
+        };
+    };
+    let mut stalled: u64 = 0;
+    loop {
+        let moved = match step(alloc, plan, header, src, out, dev, &mut passage) {
+            Ok(moved) => moved,
+            Err(end) => {
+                return Flow {
+                    end,
+                    counts: passage.counts,
+                };
+            }
+        };
+        stalled += u64::from(moved == 0);
+        if stalled >= PATIENCE * (1 + dev.stats().enqueued) {
+            return Flow {
+                end: FlowEnd::Stalled,
+                counts: passage.counts,
+            };
+        }
+    }
+}

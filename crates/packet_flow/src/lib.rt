@@ -1,0 +1,35 @@
+//! The packets of a capture on their way through a queue pair, and back into a capture.
+//!
+//! [`transfer`] reads windows of records. Each record that is begun gets a slot, in the order of the capture. A
+//! record that needs no operation is ready at once. For any other an operation joins the burst, which is offered to
+//! the driver once in a turn. What comes back, in whatever order, is put into the slot that waits for it by the
+//! packet's number on its card, and the records at the front that are ready are written.
+//!
+//! So after each turn, in a capture of eight packets:
+//!
+//! ```text
+//! written        slots                      waiting    not read
+//! 0  1  2        3 open  4 ready  5 open    6          7
+//! ```
+//!
+//! Contracts speak of these words of `specs`:
+//!
+//! - `IsBetween` of `Slots`: the slots stand for the records that are begun and not written, and the open ones wait
+//!   for just the operations that lie in the burst or in the driver;
+//! - `IsUnderway` of `Passage`: all that is known between two turns;
+//! - `Flowed` of `Flowed`, and `EndsAs` of `Passage`: what was written, counted and taken at the end. The written
+//!   records are the first of `answered_from`, in which each packet is answered by itself, and the operations that the
+//!   driver took are the first of `entries_from`.
+#![tactic(auto)]
+
+mod counts;
+mod filling;
+mod flow;
+mod passage;
+mod reading;
+mod slots;
+mod turn;
+mod writing;
+
+pub use counts::Counts;
+pub use flow::{Flow, FlowEnd, transfer};

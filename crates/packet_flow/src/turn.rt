@@ -1,0 +1,87 @@
+//! One turn of a queue pair.
+ghost use Rattle.std.specs.Prelude.{◌≡◌, ◌+◌, ◌≤◌, ◌<◌, ◌^◌, [], ◌++◌, List, length, map, option_map};
+ghost use Rattle.std.specs.List.{All};
+ghost use Rattle.capture_io.specs.Capture.{Rec};
+ghost use Rattle.crypto_model.specs.Counts.{capped, Rose};
+ghost use Rattle.crypto_op.specs.declared.spec.Card.{Card};
+ghost use Rattle.crypto_op.specs.Op.{Entry, IsFresh, entry_of};
+ghost use Rattle.dev_core.specs.Burst.{front_log, rest_of};
+ghost use Rattle.packet_plan.specs.Asked.{sessions_of};
+ghost use Rattle.packet_flow.specs.Slots.{IsBetween};
+ghost use Rattle.packet_flow.specs.Turns.{NeverIdle};
+
+use crate::slots::{Slot, settle_all};
+use crypto_op::{Card, OpBurst};
+use dev_core::Driver;
+use packet_plan::ReadyPlan;
+use std::collections::VecDeque;
+
+// Takes back what comes back now, and says how many operations that were.
+fn drain<D: Driver<Card>>(
+    plan: &ReadyPlan,
+    dev: &mut D,
+    slots: &mut VecDeque<Slot>,
+    first: u32,
+    back: &mut OpBurst<Card>,
+) -> usize
+    requires empty { back.old.ops ≡ [] }
+    requires size { 0 < back.old.cap }
+    requires few { length (D.held dev.old) ≤ 2 ^ 32 }
+    requires sessions { D.sessions dev.old ≡ sessions_of plan.now }
+    requires between { (used : List Rec) × (rest : List (Entry Card)) × IsBetween plan.now used first slots.old.items (D.held dev.old ++ rest) }
+    ensures between { (used : List Rec) (rest : List (Entry Card)) → IsBetween plan.now used first slots.old.items (D.held dev.old ++ rest)
+        → IsBetween plan.now used first slots.new.items (D.held dev.new ++ rest) }
+    ensures count { result + length (D.held dev.new) ≡ length (D.held dev.old) }
+    ensures emptied { back.new ≡ back.old }
+    ensures cause { result ≡ 0 → 0 < length (D.held dev.old) → Rose (D.stalls dev.old) (D.stalls dev.new) }
+    ensures stalls { D.stalls dev.old ≤ D.stalls dev.new }
+    ensures sessions { D.sessions dev.new ≡ D.sessions dev.old }
+    ensures enqueued { (D.stats dev.new).enqueued ≡ (D.stats dev.old).enqueued }
+    ensures log { D.log dev.new ≡ D.log dev.old }
+    ensures follows { D.follows dev.old dev.new }
+{
+    let size = back.room();
+    let mut all = 0;
+    loop {
+        let n = dev.dequeue_burst(back, size);
+        settle_all(plan, slots, first, back);
+        all += n;
+        if n < size {
+            return all;
+        }
+    }
+}
+
+/// Offers the burst once, and takes back what comes back: how many operations were accepted, and how many returned.
+pub(crate) fn turn<D: Driver<Card>>(
+    plan: &ReadyPlan,
+    dev: &mut D,
+    burst: &mut OpBurst<Card>,
+    slots: &mut VecDeque<Slot>,
+    first: u32,
+    back: &mut OpBurst<Card>,
+) -> (usize, usize)
+    requires fresh { All IsFresh burst.old.ops }
+    requires empty { back.old.ops ≡ [] }
+    requires size { 0 < back.old.cap }
+    requires few { length (D.held dev.old) + length burst.old.ops ≤ 2 ^ 32 }
+    requires sessions { D.sessions dev.old ≡ sessions_of plan.now }
+    requires works { NeverIdle D.admits D.held dev.old }
+    requires between { (used : List Rec) × IsBetween plan.now used first slots.old.items (D.held dev.old ++ map entry_of burst.old.ops) }
+    ensures between { (used : List Rec) → IsBetween plan.now used first slots.old.items (D.held dev.old ++ map entry_of burst.old.ops)
+        → IsBetween plan.now used first slots.new.items (D.held dev.new ++ map entry_of burst.new.ops) }
+    ensures within { result.0 ≤ length burst.old.ops }
+    ensures rest { burst.new ≡ rest_of result.0 burst.old }
+    ensures count { result.1 + length (D.held dev.new) ≡ length (D.held dev.old) + result.0 }
+    ensures emptied { back.new ≡ back.old }
+    ensures cause { result.0 + result.1 ≡ 0 → 0 < length (D.held dev.old) + length burst.old.ops → Rose (D.stalls dev.old) (D.stalls dev.new) }
+    ensures stalls { D.stalls dev.old ≤ D.stalls dev.new }
+    ensures sessions { D.sessions dev.new ≡ D.sessions dev.old }
+    ensures enqueued { (D.stats dev.new).enqueued ≡ capped ((D.stats dev.old).enqueued + result.0) }
+    ensures log { D.log dev.new ≡ option_map (λ l. l ++ front_log result.0 burst.old) (D.log dev.old) }
+    ensures follows { D.follows dev.old dev.new }
+{
+    let accepted = dev.enqueue_burst(burst, burst.len());
+    let returned = drain(plan, dev, slots, first, back);
+    (accepted, returned)
+}

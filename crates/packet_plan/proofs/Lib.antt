@@ -1,0 +1,7 @@
+pub mod Begun
+pub mod Choices
+pub mod Finished
+pub mod Packets
+pub mod SoundPlans
+pub mod UsableSessions
+pub mod Ways

@@ -15,6 +15,7 @@ use Rattle.capture_io.specs.Pieces.{AppendsPart}
 use Rattle.session_file.specs.declared.plan.Plan.{Plan}
 use Rattle.packet_plan.specs.Asked.{sessions_of}
 use Rattle.packet_plan.specs.Answered.{Answered, answered_from}
+use Rattle.packet_flow.proofs.Answers.{length-answered_from}
 use Rattle.packet_flow.specs.declared.flow.FlowEnd.{FlowEnd}
 use Rattle.packet_flow.specs.declared.flow.FlowEnd.TheVariants as flow
 use Rattle.packet_flow.specs.Counts.{counts_of}
@@ -73,12 +74,6 @@ more_bytes big answers head n within = by_rest (drop n answers) refl
           length-append head (flat_map (answer_bytes big) (take n answers)),
           length-append head (flat_map (answer_bytes big) (take (n + 1) answers)),
         ))
-
--- length of answers
-length-answered_from : (plan : Plan) (n : ℕ) (rs : List Rec) → length (answered_from plan n rs) ≡ length rs
-unfolding answered_from
-length-answered_from plan n [] = refl
-length-answered_from plan n (r ∷ rs) = omega (arith, length-answered_from plan (n + 1) rs)
 
 module _ (plan : Plan) (h : Header) (rs : List Rec) (rest : Rest) (old new : List ℕ) where
   abbrev head : List ℕ

@@ -1,8 +1,9 @@
 -- What a run did.
-use Rattle.std.specs.Prelude.{◌≡◌, ◌≤◌, ◌<◌, ◌+◌, ◌⊎◌, ◌++◌, ℕ, List, [], ◌∷◌, length, take, Option, option_map}
+use Rattle.std.specs.Prelude.{◌≡◌, ◌≤◌, ◌<◌, ◌+◌, ◌*◌, ◌⊎◌, ◌++◌, ℕ, List, [], ◌∷◌, length, take, Option, option_map}
 use Rattle.crypto_model.specs.Counts.{capped}
 use Rattle.crypto_model.specs.Process.{Transform}
 use Rattle.dev_core.specs.declared.driver.LogEntry.{LogEntry}
+use Rattle.dev_core.specs.declared.stats.Stats.{Stats}
 use Rattle.capture_io.specs.declared.header.ReadStop.{ReadStop}
 use Rattle.capture_io.specs.declared.header.ReadStop.TheVariants.{Fault, BadCapture, OutOfMemory}
 use Rattle.capture_io.specs.Capture.{Reading, NoHeader, Holds}
@@ -68,6 +69,15 @@ pub record DeviceNow : Type 0 where
   pub sessions : List (List Transform)
   pub enqueued : ℕ
   pub log : Option (List LogEntry)
+
+-- a device in this state, by the members of its bounds
+abbrev pub device_now : {D : Type 0} → (D → ℕ) → (D → List (List Transform)) → (D → Stats) → (D → Option (List LogEntry)) → D → DeviceNow
+device_now limit sessions stats log d = record { depth = limit d; sessions = sessions d; enqueued = (stats d).enqueued; log = log d }
+
+-- Between two counts of a device's stalls are as many as a run suffers: 4,096, and as many for each operation taken. A
+-- count that stands still at its last value is such a one.
+abbrev pub HasStalledOut : ℕ → ℕ → ℕ → Type 0
+HasStalledOut before enqueued now = capped (before + 4096 * (1 + enqueued)) ≤ now
 
 -- This run has set the device up for the plan, and it has taken these operations since. Its log, where it tells one,
 -- is the list of them.

@@ -5,7 +5,7 @@ use crate::run;
 use capture_io::{MemSink, MemSource, Sink, WriteFault};
 use crypto_model::OutOfMemory;
 use crypto_op::Card;
-use dev_core::Driver;
+use dev_core::{Device, Driver};
 use std::alloc::{AllocError, Global};
 use std::process::Abort;
 use std::test::Fail;
@@ -67,7 +67,7 @@ fn joined(alloc: Global, parts: &[&[u8]]) -> Result<Vec<u8>, AllocError> {
     Ok(bytes)
 }
 
-fn one_device(alloc: Global) -> Result<Vec<PlainDriver<Card>>, OutOfMemory>
+fn plain(alloc: Global) -> Result<Vec<PlainDriver<Card>>, OutOfMemory>
     ensures some { IfOk result (λ v. length v.items ≡ 1) }
     ensures idle { IfOk result (λ v. All (λ d. held_of d ≡ []) v.items) }
 {
@@ -86,23 +86,28 @@ struct Ended {
     report: MemSink,
 }
 
-// The calls of the listed numbers fail.
-fn run_in_memory(
+// Runs over a capture, a session text and devices. The listed reads of the capture and of the text, and the listed
+// writes of the output fail.
+fn run_in_memory<D: Device<Card> + Drop>(
     alloc: Global,
     words: &[&str],
+    text: &[u8],
     capture: Vec<u8>,
     piece: usize,
     fails: [&[u32]; 3],
+    devs: Vec<D>,
 ) -> Result<Ended, Fail>
-    requires { 0 < piece }
+    requires piece { 0 < piece }
+    requires some { length devs.items ≡ 1 }
+    requires idle { All (λ d. D.held d ≡ []) devs.items }
 {
-    let [reads, writes, reports] = fails;
+    let [reads, text_reads, writes] = fails;
     let words = words_of(alloc, words)?;
     let mut capture = MemSource::new(capture, piece, Vec::from_slice(alloc, reads)?);
-    let mut sessions = MemSource::new(Vec::new(alloc), 1, Vec::new(alloc));
-    let mut out = MemSink::new(alloc, 1000, Vec::from_slice(alloc, writes)?)?;
-    let mut report = MemSink::new(alloc, 1000, Vec::from_slice(alloc, reports)?)?;
-    let devs = one_device(alloc)?;
+    let text = Vec::from_slice(alloc, text)?;
+    let mut sessions = MemSource::new(text, 100, Vec::from_slice(alloc, text_reads)?);
+    let mut out = MemSink::new(alloc, 300_000, Vec::from_slice(alloc, writes)?)?;
+    let mut report = MemSink::new(alloc, 1000, Vec::new(alloc))?;
     let done = run(
         alloc,
         &words,
@@ -122,6 +127,18 @@ fn run_in_memory(
     })
 }
 
+fn quick(
+    alloc: Global,
+    words: &[&str],
+    capture: Vec<u8>,
+    piece: usize,
+    fails: [&[u32]; 3],
+) -> Result<Ended, Fail>
+    requires { 0 < piece }
+{
+    run_in_memory(alloc, words, &[], capture, piece, fails, plain(alloc)?)
+}
+
 mod crypt;
 mod devices;
 
@@ -129,7 +146,7 @@ mod devices;
 fn the_published_packet_is_encrypted(rt: HostRuntime) -> Result<(), Fail> {
     let alloc = rt.alloc();
     let capture = joined(alloc, &[&HEADER, &HEAD_OF_16, PLAIN])?;
-    let run = run_in_memory(alloc, &QUICK, capture, 7, [&[], &[], &[]])?;
+    let run = quick(alloc, &QUICK, capture, 7, [&[], &[], &[]])?;
     assert_eq!(rt; run.status, 0);
     assert_eq!(rt; run.enqueued, 1);
     let written = joined(alloc, &[&RAISED, &HEAD_OF_16, &CIPHER])?;
@@ -154,7 +171,7 @@ fn expect(
     written: usize,
     last: &[u8],
 ) -> Result<(), Fail> {
-    let run = run_in_memory(alloc, words, joined(alloc, capture)?, 7, [&[], &[], &[]])?;
+    let run = quick(alloc, words, joined(alloc, capture)?, 7, [&[], &[], &[]])?;
     assert_eq!(rt; run.status, status);
     assert_eq!(rt; run.out.bytes(), &RAISED[..written.min(24)]);
     let counts = if written == 0 {
@@ -233,7 +250,7 @@ fn a_capture_is_cut_anywhere(rt: HostRuntime) -> Result<(), Fail> {
             _ => 1000,
         };
         let bytes = Vec::from_slice(alloc, read.get(..length).ok_or("a length")?)?;
-        let run = run_in_memory(alloc, &QUICK, bytes, piece, [&[], &[], &[]])?;
+        let run = quick(alloc, &QUICK, bytes, piece, [&[], &[], &[]])?;
         let (records, last) = cut_at(length);
         let counts = if length < 24 {
             String::new(alloc)
@@ -257,7 +274,7 @@ fn each_read_and_each_write_fails_in_turn(rt: HostRuntime) -> Result<(), Fail> {
     let (read, written) = two_records(alloc)?;
     for call in 0..32 {
         let bytes = Vec::from_slice(alloc, read.as_slice())?;
-        let run = run_in_memory(alloc, &QUICK, bytes, 7, [&[call], &[], &[]])?;
+        let run = quick(alloc, &QUICK, bytes, 7, [&[call], &[], &[]])?;
         // There are 4 reads for the header, 3 and 9 for each record, and one at the end.
         let (status, end) = match call {
             0..=3 => (5, 0),
@@ -269,7 +286,7 @@ fn each_read_and_each_write_fails_in_turn(rt: HostRuntime) -> Result<(), Fail> {
     }
     for (call, end) in [(0, 0), (1, 24), (2, 40), (3, 100), (4, 116), (5, 176)] {
         let bytes = Vec::from_slice(alloc, read.as_slice())?;
-        let run = run_in_memory(alloc, &QUICK, bytes, 7, [&[], &[call], &[]])?;
+        let run = quick(alloc, &QUICK, bytes, 7, [&[], &[], &[call]])?;
         let status = if end == 176 { 0 } else { 6 };
         assert_eq!(rt; run.status, status, "write {call}");
         assert_eq!(rt; run.out.bytes(), written.get(..end).ok_or("an end")?);
@@ -318,7 +335,7 @@ fn each_sink_is_flushed_once_behind_its_last_write(rt: HostRuntime) -> Result<()
         flushes: 0,
         unflushed: 0,
     };
-    let devs = one_device(alloc)?;
+    let devs = plain(alloc)?;
     let done = run(
         alloc,
         &words,

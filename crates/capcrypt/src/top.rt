@@ -1,13 +1,13 @@
 //! The top call.
 ghost use Rattle.std.specs.Prelude.{◌≡◌, ◌≤◌, ◌<◌, ◌+◌, ◌*◌, ◌⊎◌, List, [], length, map, drop, slice_index_or, All, string_bytes};
-ghost use Rattle.crypto_model.specs.Counts.{Rose, capped};
+ghost use Rattle.crypto_model.specs.Counts.{Rose};
 ghost use Rattle.crypto_op.specs.declared.spec.Card.{Card};
 ghost use Rattle.capture_io.specs.Capture.{Reading, IsReading};
 ghost use Rattle.command_words.specs.Asked.{asked};
 ghost use Rattle.capcrypt.specs.Start.{LeavesSessions, start_of};
 ghost use Rattle.capcrypt.specs.Written.{ending_of};
 ghost use Rattle.capcrypt.specs.Report.{number_of};
-ghost use Rattle.capcrypt.specs.Ran.{Job, Ran};
+ghost use Rattle.capcrypt.specs.Ran.{HasStalledOut, Job, Ran, device_now};
 
 use crate::ending::{Ending, Outcome, number};
 use crate::report::write_report;
@@ -40,10 +40,10 @@ fn job<S: Source, T: Source, K: Sink, D: Device<Card>>(
     requires idle { D.held dev.old ≡ [] }
     ensures job { S.tells → T.tells → K.tells → (reading : Reading) → IsReading (S.left capture.old) reading
         → Job (start_of (asked (map string_bytes words.now) devices) (T.left sessions.old)) reading result (K.written out.old) (K.written out.new) (dev.new ≡ dev.old) (D.log dev.old)
-        (record { depth = D.limit dev.new; sessions = D.sessions dev.new; enqueued = (D.stats dev.new).enqueued; log = D.log dev.new }) }
+        (device_now D.limit D.sessions D.stats D.log dev.new) }
     ensures unread { LeavesSessions (asked (map string_bytes words.now) devices) → sessions.new ≡ sessions.old }
     ensures ended { S.tells → result.ending ≡ Ending.Done → S.left capture.new ≡ [] }
-    ensures stalled { result.ending ≡ Ending.Stalled → capped (D.stalls dev.old + 4096 * (1 + (D.stats dev.new).enqueued)) ≤ D.stalls dev.new }
+    ensures stalled { result.ending ≡ Ending.Stalled → HasStalledOut (D.stalls dev.old) (D.stats dev.new).enqueued (D.stalls dev.new) }
     ensures read_cause { result.ending ≡ Ending.ReadFault → Rose (S.faults capture.old) (S.faults capture.new) ⊎ Rose (T.faults sessions.old) (T.faults sessions.new) }
     ensures write_later { K.faults out.old ≤ K.faults out.new }
     ensures write_cause { result.ending ≡ Ending.WriteFault → Rose (K.faults out.old) (K.faults out.new) }
@@ -80,7 +80,7 @@ pub fn run<S: Source, T: Source, K: Sink, E: Sink, D: Device<Card>>(
     ensures ran { S.tells → T.tells → K.tells → E.tells → (reading : Reading) → IsReading (S.left capture.old) reading → (d : D)
         → Ran (start_of (asked (map string_bytes words.now) (length devs.items)) (T.left sessions.old)) reading result.status (K.written out.old) (K.written out.new)
         (slice_index_or result.devs.items 0 d ≡ slice_index_or devs.items 0 d) (D.log (slice_index_or devs.items 0 d))
-        (record { depth = D.limit (slice_index_or result.devs.items 0 d); sessions = D.sessions (slice_index_or result.devs.items 0 d); enqueued = (D.stats (slice_index_or result.devs.items 0 d)).enqueued; log = D.log (slice_index_or result.devs.items 0 d) })
+        (device_now D.limit D.sessions D.stats D.log (slice_index_or result.devs.items 0 d))
         (E.written report.old) (E.written report.new) (Rose (E.faults report.old) (E.faults report.new)) }
     // The other devices are as they were, and so is the session source where the words don't ask for it.
     ensures devices { length result.devs.items ≡ length devs.items }
@@ -92,13 +92,13 @@ pub fn run<S: Source, T: Source, K: Sink, E: Sink, D: Device<Card>>(
     // A fault is told only where a count rose, and a stall only where the device stalled as often as a run suffers it.
     ensures read_cause { result.status ≡ 5 → Rose (S.faults capture.old) (S.faults capture.new) ⊎ Rose (T.faults sessions.old) (T.faults sessions.new) }
     ensures write_cause { result.status ≡ 6 → Rose (K.faults out.old) (K.faults out.new) ⊎ Rose (E.faults report.old) (E.faults report.new) }
-    ensures stall_cause { result.status ≡ 7 → (d : D) → capped (D.stalls (slice_index_or devs.items 0 d) + 4096 * (1 + (D.stats (slice_index_or result.devs.items 0 d)).enqueued)) ≤ D.stalls (slice_index_or result.devs.items 0 d) }
+    ensures stall_cause { result.status ≡ 7 → (d : D) → HasStalledOut (D.stalls (slice_index_or devs.items 0 d)) (D.stats (slice_index_or result.devs.items 0 d)).enqueued (D.stalls (slice_index_or result.devs.items 0 d)) }
 
     // Where no count rose so far, words, session text and capture decide the status, or memory was wanting.
     ensures complete { S.tells → T.tells → K.tells → E.tells → (reading : Reading) → IsReading (S.left capture.old) reading → (d : D)
         → ¬ Rose (S.faults capture.old) (S.faults capture.new) → ¬ Rose (T.faults sessions.old) (T.faults sessions.new)
         → ¬ Rose (K.faults out.old) (K.faults out.new) → ¬ Rose (E.faults report.old) (E.faults report.new)
-        → ¬ (capped (D.stalls (slice_index_or devs.items 0 d) + 4096 * (1 + (D.stats (slice_index_or result.devs.items 0 d)).enqueued)) ≤ D.stalls (slice_index_or result.devs.items 0 d))
+        → ¬ HasStalledOut (D.stalls (slice_index_or devs.items 0 d)) (D.stats (slice_index_or result.devs.items 0 d)).enqueued (D.stalls (slice_index_or result.devs.items 0 d))
         → (result.status ≡ 1) ⊎ (result.status ≡ number_of (ending_of (start_of (asked (map string_bytes words.now) (length devs.items)) (T.left sessions.old)) reading)) }
 {
     let mut devs = devs;

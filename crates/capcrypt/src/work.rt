@@ -1,6 +1,6 @@
 //! A run whose plan is known.
 ghost use Rattle.std.specs.Prelude.{◌≡◌, ◌≤◌, ◌<◌, ◌+◌, ◌*◌, ◌++◌, ◌⊎◌, true, List, ℕ, [], length, option_map, OnOk, OnErr};
-ghost use Rattle.crypto_model.specs.Counts.{Rose, capped};
+ghost use Rattle.crypto_model.specs.Counts.{Rose};
 ghost use Rattle.crypto_op.specs.declared.spec.Card.{Card};
 ghost use Rattle.dev_core.specs.Stats.{no_stats};
 ghost use Rattle.capture_io.specs.Capture.{Rec, Rest, Records, Reading, IsReading, Holds, first_place};
@@ -8,7 +8,7 @@ ghost use Rattle.packet_plan.specs.Asked.{sessions_of};
 ghost use Rattle.packet_flow.specs.Counts.{counts_of};
 ghost use Rattle.capcrypt.specs.Start.{Begins};
 ghost use Rattle.capcrypt.specs.Written.{raised};
-ghost use Rattle.capcrypt.specs.Ran.{Job};
+ghost use Rattle.capcrypt.specs.Ran.{HasStalledOut, Job, device_now};
 
 use crate::ending::{Ending, Outcome, ending_of_flow, ending_of_stop};
 use crate::start::Task;
@@ -81,10 +81,10 @@ fn rewrite<S: Source, K: Sink, D: Device<Card>>(
     requires log { D.log dev.old ≡ option_map (λ l. []) (D.log dev.old) }
     ensures job { S.tells → K.tells → (rs : List Rec) (rest : Rest) → Records header.now.big first_place (S.left capture.old) rs rest
         → Job (Begins task.now.plan) (Holds header.now rs rest) result (K.written out.old) (K.written out.new) ⊥ (D.log dev.old)
-        (record { depth = D.limit dev.new; sessions = D.sessions dev.new; enqueued = (D.stats dev.new).enqueued; log = D.log dev.new }) }
+        (device_now D.limit D.sessions D.stats D.log dev.new) }
     ensures header { result.header ≡ true }
     ensures ended { S.tells → result.ending ≡ Ending.Done → S.left capture.new ≡ [] }
-    ensures stalled { result.ending ≡ Ending.Stalled → capped (D.stalls dev.old + 4096 * (1 + (D.stats dev.new).enqueued)) ≤ D.stalls dev.new }
+    ensures stalled { result.ending ≡ Ending.Stalled → HasStalledOut (D.stalls dev.old) (D.stats dev.new).enqueued (D.stalls dev.new) }
     ensures read_later { S.faults capture.old ≤ S.faults capture.new }
     ensures read_cause { result.ending ≡ Ending.ReadFault → Rose (S.faults capture.old) (S.faults capture.new) }
     ensures write_later { K.faults out.old ≤ K.faults out.new }
@@ -129,9 +129,9 @@ fn go_on<S: Source, K: Sink, D: Device<Card>>(
     requires idle { D.held dev.old ≡ [] }
     ensures job { S.tells → K.tells → (rs : List Rec) (rest : Rest) → Records header.now.big first_place (S.left capture.old) rs rest
         → Job (Begins task.now.plan) (Holds header.now rs rest) result (K.written out.old) (K.written out.new) (dev.new ≡ dev.old) (D.log dev.old)
-        (record { depth = D.limit dev.new; sessions = D.sessions dev.new; enqueued = (D.stats dev.new).enqueued; log = D.log dev.new }) }
+        (device_now D.limit D.sessions D.stats D.log dev.new) }
     ensures ended { S.tells → result.ending ≡ Ending.Done → S.left capture.new ≡ [] }
-    ensures stalled { result.ending ≡ Ending.Stalled → capped (D.stalls dev.old + 4096 * (1 + (D.stats dev.new).enqueued)) ≤ D.stalls dev.new }
+    ensures stalled { result.ending ≡ Ending.Stalled → HasStalledOut (D.stalls dev.old) (D.stats dev.new).enqueued (D.stalls dev.new) }
     ensures read_later { S.faults capture.old ≤ S.faults capture.new }
     ensures read_cause { result.ending ≡ Ending.ReadFault → Rose (S.faults capture.old) (S.faults capture.new) }
     ensures write_later { K.faults out.old ≤ K.faults out.new }
@@ -156,9 +156,9 @@ pub(crate) fn work<S: Source, K: Sink, D: Device<Card>>(
     requires idle { D.held dev.old ≡ [] }
     ensures job { S.tells → K.tells → (reading : Reading) → IsReading (S.left capture.old) reading
         → Job (Begins task.now.plan) reading result (K.written out.old) (K.written out.new) (dev.new ≡ dev.old) (D.log dev.old)
-        (record { depth = D.limit dev.new; sessions = D.sessions dev.new; enqueued = (D.stats dev.new).enqueued; log = D.log dev.new }) }
+        (device_now D.limit D.sessions D.stats D.log dev.new) }
     ensures ended { S.tells → result.ending ≡ Ending.Done → S.left capture.new ≡ [] }
-    ensures stalled { result.ending ≡ Ending.Stalled → capped (D.stalls dev.old + 4096 * (1 + (D.stats dev.new).enqueued)) ≤ D.stalls dev.new }
+    ensures stalled { result.ending ≡ Ending.Stalled → HasStalledOut (D.stalls dev.old) (D.stats dev.new).enqueued (D.stalls dev.new) }
     ensures read_later { S.faults capture.old ≤ S.faults capture.new }
     ensures read_cause { result.ending ≡ Ending.ReadFault → Rose (S.faults capture.old) (S.faults capture.new) }
     ensures write_later { K.faults out.old ≤ K.faults out.new }

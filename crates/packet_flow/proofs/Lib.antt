@@ -1,6 +1,6 @@
 mod InSlots
 mod Bags
-mod Answers
+pub mod Answers
 mod Begun
 mod Ends
 mod Settling

@@ -1,10 +1,7 @@
 //! `crypt` through a plain device.
-use super::{Ended, HEAD_OF_16, HEAD_OF_60, HEADER, RAISED, joined, one_device, words_of};
-use crate::run;
-use capture_io::{MemSink, MemSource};
-use crypto_op::Card;
-use dev_core::Driver;
+use super::{Ended, HEAD_OF_16, HEAD_OF_60, HEADER, RAISED, joined, plain, run_in_memory};
 use std::alloc::Global;
+use std::process::Abort;
 use std::test::Fail;
 
 const CRYPT: [&str; 7] = [
@@ -31,39 +28,15 @@ const SEALED: [u8; 32] = [
     0xab, 0x6e, 0x47, 0xd4, 0x2c, 0xec, 0x13, 0xbd, 0xf5, 0x3a, 0x67, 0xb2, 0x12, 0x57, 0xbd, 0xdf,
 ];
 
-// Runs `crypt` on a session text and a capture; the listed reads of the session source fail.
 fn crypt(
     alloc: Global,
     words: &[&str],
     text: &[u8],
     fails: &[u32],
     capture: Vec<u8>,
-    room: usize,
 ) -> Result<Ended, Fail> {
-    let words = words_of(alloc, words)?;
-    let mut capture = MemSource::new(capture, 1000, Vec::new(alloc));
-    let text = Vec::from_slice(alloc, text)?;
-    let mut sessions = MemSource::new(text, 100, Vec::from_slice(alloc, fails)?);
-    let mut out = MemSink::new(alloc, room, Vec::new(alloc))?;
-    let mut report = MemSink::new(alloc, 1000, Vec::new(alloc))?;
-    let devs = one_device(alloc)?;
-    let done = run(
-        alloc,
-        &words,
-        &mut capture,
-        &mut sessions,
-        &mut out,
-        &mut report,
-        devs,
-    );
-    let device = done.devs.first().ok_or("no device")?;
-    let enqueued = Driver::<Card>::stats(device).enqueued;
-    Ok(Ended {
-        status: done.status,
-        enqueued,
-        out,
-        report,
-    })
+    let devs = plain(alloc)?;
+    run_in_memory(alloc, words, text, capture, 1000, [&[], fails, &[]], devs)
 }
 
 // One packet under a session text: the record that is written, and the counts of the report.
@@ -122,7 +95,7 @@ fn one_packet_is_sealed_opened_or_left(rt: HostRuntime) -> Result<(), Fail> {
     ];
     for (text, head, packet, written_head, written, counts) in cases {
         let capture = joined(alloc, &[&HEADER, head, packet])?;
-        let run = crypt(alloc, &CRYPT, text, &[], capture, 1000)?;
+        let run = crypt(alloc, &CRYPT, text, &[], capture)?;
         let expected = joined(alloc, &[&RAISED, written_head, written])?;
         assert_eq!(rt; run.out.bytes(), expected.as_slice());
         let report = format!(in alloc; "packets=1 {counts}\nstatus=0\n")?;
@@ -131,10 +104,27 @@ fn one_packet_is_sealed_opened_or_left(rt: HostRuntime) -> Result<(), Fail> {
     Ok(())
 }
 
-// Words and session texts that end a run before the capture is read, and the report's one line.
+// Expects that a run ends before the capture is read, with a report of this one line.
+fn expect_at_once(
+    rt: &impl Abort,
+    alloc: Global,
+    words: &[&str],
+    text: &[u8],
+    fails: &[u32],
+    line: &str,
+) -> Result<(), Fail> {
+    let capture = joined(alloc, &[&HEADER, &HEAD_OF_16, &[0; 16]])?;
+    let run = crypt(alloc, words, text, fails, capture)?;
+    assert_eq!(rt; run.report.bytes(), line.as_bytes());
+    assert!(rt; run.out.bytes().is_empty());
+    assert_eq!(rt; run.enqueued, 0);
+    Ok(())
+}
+
 #[test]
 fn nothing_is_done_without_a_plan(rt: HostRuntime) -> Result<(), Fail> {
     let alloc = rt.alloc();
+    let vdev = "status=2 vdev at=0\n";
     let other = [
         "crypt",
         "--vdev",
@@ -142,35 +132,18 @@ fn nothing_is_done_without_a_plan(rt: HostRuntime) -> Result<(), Fail> {
         "--sessions",
         "f",
     ];
-    let none: [&str; 1] = ["crypt"];
-    let cases: [(&[&str], &[u8], &[u32], u8, &str); 6] = [
-        (&other, SEALS, &[], 2, "status=2 vdev at=0\n"),
-        (&none, SEALS, &[], 2, "status=2 usage\n"),
-        (&CRYPT, SEALS, &[0], 5, "status=5 read fault\n"),
-        (&CRYPT, SEALS, &[1], 5, "status=5 read fault\n"),
-        (
-            &CRYPT,
-            &[b'\n'; 1_048_577],
-            &[],
-            8,
-            "status=8 too large value=1048577\n",
-        ),
-        (
-            &CRYPT,
-            &[b'\n'; 1_048_576],
-            &[],
-            4,
-            "status=4 sessions line=1048577 kind=1\n",
-        ),
-    ];
-    for (words, text, fails, status, report) in cases {
-        let capture = joined(alloc, &[&HEADER, &HEAD_OF_16, &[0; 16]])?;
-        let run = crypt(alloc, words, text, fails, capture, 1000)?;
-        assert_eq!(rt; run.status, status);
-        assert_eq!(rt; run.report.bytes(), report.as_bytes());
-        assert!(rt; run.out.bytes().is_empty());
-    }
-    Ok(())
+    expect_at_once(&rt, alloc, &other, SEALS, &[], vdev)?;
+    expect_at_once(&rt, alloc, &CRYPT[..1], SEALS, &[], "status=2 usage\n")?;
+    let fault = "status=5 read fault\n";
+    expect_at_once(&rt, alloc, &CRYPT, SEALS, &[0], fault)?;
+    expect_at_once(&rt, alloc, &CRYPT, SEALS, &[1], fault)?;
+    let mut text = Vec::new(alloc);
+    text.resize(1_048_576, b'\n')?;
+    let line = "status=4 sessions line=1048577 kind=1\n";
+    expect_at_once(&rt, alloc, &CRYPT, &text, &[], line)?;
+    text.push(b'\n')?;
+    let line = "status=8 too large value=1048577\n";
+    expect_at_once(&rt, alloc, &CRYPT, &text, &[], line)
 }
 
 // Lines behind `capcrypt 1`, and the line and the kind of their fault.
@@ -218,7 +191,6 @@ fn faulty_session_texts_are_told(rt: HostRuntime) -> Result<(), Fail> {
             text.as_bytes(),
             &[],
             joined(alloc, &[&HEADER])?,
-            1000,
         )?;
         let report = format!(in alloc; "status=4 sessions line={line} kind={kind}\n")?;
         assert_eq!(rt; run.report.bytes(), report.as_bytes());
@@ -230,7 +202,6 @@ fn faulty_session_texts_are_told(rt: HostRuntime) -> Result<(), Fail> {
         b"capcrypt 3",
         &[],
         joined(alloc, &[&HEADER])?,
-        1000,
     )?;
     assert_eq!(rt;
         run.report.bytes(),
@@ -260,7 +231,7 @@ fn a_rule_chooses_among_usual_packets(rt: HostRuntime) -> Result<(), Fail> {
             capture.push(if place == 23 { protocol } else { 0 })?;
         }
     }
-    let run = crypt(alloc, &CRYPT[..5], text, &[], capture, 3000)?;
+    let run = crypt(alloc, &CRYPT[..5], text, &[], capture)?;
     let report =
         b"packets=4 success=2 auth_failed=0 invalid_args=0 short=0 passed=2\ndevice 0 operations=2\nstatus=0\n";
     assert_eq!(rt; run.report.bytes(), report.as_slice());
@@ -280,7 +251,7 @@ fn the_longest_packet_is_sealed(rt: HostRuntime) -> Result<(), Fail> {
     let alloc = rt.alloc();
     let mut capture = joined(alloc, &[&HEADER, &head_of(262_144)])?;
     capture.resize(262_184, 0)?;
-    let run = crypt(alloc, &CRYPT, SEALS, &[], capture, 300_000)?;
+    let run = crypt(alloc, &CRYPT, SEALS, &[], capture)?;
     assert_eq!(rt; run.status, 0);
     assert_eq!(rt; run.enqueued, 1);
     assert_eq!(rt;

@@ -1,12 +1,11 @@
 //! Runs over devices that refuse.
 ghost use Rattle.std.specs.Prelude.{◌≡◌, [], length, IfOk, All};
 ghost use Rattle.sym_engine.specs.Driver.{held_of};
+ghost use Rattle.crypto_op.specs.Op.{IsFresh};
 ghost use Rattle.dev_core.specs.Stall.{inner_of};
 
 use super::crypt::SEALS;
-use super::{HEAD_OF_16, HEAD_OF_60, HEADER, RAISED, joined, words_of};
-use crate::run;
-use capture_io::{MemSink, MemSource};
+use super::{Ended, HEAD_OF_16, HEAD_OF_60, HEADER, RAISED, joined, run_in_memory};
 use crypto_model::{DigestPlace, Range, SessId};
 use crypto_op::{Aad, Card, Iv, Op, OpBurst, OpSpec};
 use dev_core::{Device, Driver, Kind, LimitList, Limits, LogDriver, LogEntry, StallDriver};
@@ -32,14 +31,14 @@ fn stalling(
     Ok(devs)
 }
 
-// `crypt` over such a device: its status, its operations, how many bytes were written and the report.
+// `crypt` over such a device.
 fn crypt_over(
     alloc: Global,
     enqueue: Limits,
     dequeue: Limits,
     burst: &str,
     capture: Vec<u8>,
-) -> Result<(u8, u64, usize, MemSink), Fail> {
+) -> Result<Ended, Fail> {
     let words = [
         "crypt",
         "--vdev",
@@ -49,24 +48,8 @@ fn crypt_over(
         "--burst",
         burst,
     ];
-    let words = words_of(alloc, &words)?;
-    let mut capture = MemSource::new(capture, 1000, Vec::new(alloc));
-    let mut sessions = MemSource::new(Vec::from_slice(alloc, SEALS)?, 100, Vec::new(alloc));
-    let mut out = MemSink::new(alloc, 10_000, Vec::new(alloc))?;
-    let mut report = MemSink::new(alloc, 1000, Vec::new(alloc))?;
     let devs = stalling(alloc, enqueue, dequeue)?;
-    let done = run(
-        alloc,
-        &words,
-        &mut capture,
-        &mut sessions,
-        &mut out,
-        &mut report,
-        devs,
-    );
-    let device = done.devs.first().ok_or("no device")?;
-    let enqueued = Driver::<Card>::stats(device).enqueued;
-    Ok((done.status, enqueued, out.bytes().len(), report))
+    run_in_memory(alloc, &words, SEALS, capture, 1000, [&[], &[], &[]], devs)
 }
 
 #[test]
@@ -88,10 +71,9 @@ fn a_device_may_refuse_for_a_time(rt: HostRuntime) -> Result<(), Fail> {
             capture.extend_from_slice(&HEAD_OF_60)?;
             capture.extend_from_slice(&[7; 60])?;
         }
-        let (found, enqueued, length, _report) = crypt_over(
-            alloc, enqueue, dequeue, "32", capture,
-        )?;
-        assert_eq!(rt; (found, enqueued, length), (status, operations, written));
+        let run = crypt_over(alloc, enqueue, dequeue, "32", capture)?;
+        assert_eq!(rt; (run.status, run.enqueued), (status, operations));
+        assert_eq!(rt; run.out.bytes().len(), written);
     }
     Ok(())
 }
@@ -100,21 +82,18 @@ fn a_device_may_refuse_for_a_time(rt: HostRuntime) -> Result<(), Fail> {
 fn a_run_over_a_device_that_takes_nothing_ends(rt: HostRuntime) -> Result<(), Fail> {
     let alloc = rt.alloc();
     let capture = joined(alloc, &[&HEADER, &HEAD_OF_16, &[0; 16]])?;
-    let (status, _enqueued, length, report) = crypt_over(
-        alloc,
-        Limits::Always(0),
-        Limits::Never,
-        "1",
-        capture,
-    )?;
-    assert_eq!(rt; (status, length), (7, RAISED.len()));
+    let run = crypt_over(alloc, Limits::Always(0), Limits::Never, "1", capture)?;
+    assert_eq!(rt; run.status, 7);
+    assert_eq!(rt; run.out.bytes(), RAISED.as_slice());
     let text =
         b"packets=0 success=0 auth_failed=0 invalid_args=0 short=0 passed=0\ndevice 0 operations=0\nstatus=7 stalled\n";
-    assert_eq!(rt; report.bytes(), text.as_slice());
+    assert_eq!(rt; run.report.bytes(), text.as_slice());
     Ok(())
 }
 
-fn operation(alloc: Global, n: u32) -> Result<Op<Card>, Fail> {
+fn operation(alloc: Global, n: u32) -> Result<Op<Card>, Fail>
+    ensures { IfOk result IsFresh }
+{
     let seg = Seg::new(alloc, 0)?;
     let packet = Mbuf::new(alloc, seg).map_err(|_| "out of memory")?;
     let spec = OpSpec {

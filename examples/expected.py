@@ -2,8 +2,10 @@
 """Makes what capcrypt must answer to each example: expected.py [FOLDER], by default beside this script.
 
 It reads the captures that make.py left in FOLDER and writes FOLDER/expected and FOLDER/cases.txt.
-The cipher is openssl's, and how many records are whole is stated in the table below: nothing here
-runs capcrypt, or decides what it must refuse.
+The cipher of `quick` is openssl's, and how many records are whole is stated in the table below: nothing
+here runs capcrypt, or decides what it must refuse. What `crypt` seals and opens is the work of
+checks/reference.py; where the Python package `cryptography` is missing, all but that is made, and the
+exit status is 3.
 """
 
 import os
@@ -13,6 +15,13 @@ import sys
 
 HERE = os.path.dirname(os.path.abspath(__file__))
 FOLDER = sys.argv[1] if len(sys.argv) > 1 else HERE
+
+sys.dont_write_bytecode = True
+sys.path.append(os.path.join(HERE, "..", "checks"))
+try:
+    import reference
+except ImportError:
+    reference = None
 
 KEY, SALT = "ae6852f8121067cc4bf7a5765577f39e", "00000030"
 KEY_192 = "16af5b145fc9f579c175f93e3bfb0eed863d06ccfdb78515"
@@ -56,6 +65,27 @@ USAGE = [
     ("salt-not-hex", f"quick {KEY} 0x000030"),
 ]
 
+CRYPT = "crypt --vdev mode=round-robin,worker=plain --sessions"
+
+# The case's name, which is its session file's too, its capture, what is written and further words.
+GATEWAY = [
+    ("gateway", "mixed.pcap", "expected/gateway.pcap", ""),
+    ("gateway-inward", "expected/gateway.pcap", "mixed.pcap", " --burst 7"),
+]
+
+# Calls of crypt that end before the capture is read, and their reports.
+REFUSED = [
+    ("sessions-folder", f"{CRYPT} examples", "status=5 read fault"),
+    ("sessions-missing", f"{CRYPT} examples/none", "status=5 read fault"),
+    ("sessions-faulty", f"{CRYPT} examples/faulty.sessions", "status=4 sessions line=4 kind=7"),
+    (
+        "other-vdev",
+        "crypt --vdev mode=round-robin --sessions examples/gateway.sessions",
+        "status=2 vdev at=0",
+    ),
+    ("burst-zero", f"{CRYPT} examples/gateway.sessions --burst 0", "status=2 usage"),
+]
+
 
 def encrypt(key, salt, n, data):
     words = ["openssl", "enc", f"-aes-{4 * len(key)}-ctr", "-nosalt", "-K", key]
@@ -77,9 +107,28 @@ def answer(capture, key, salt, packets):
     return made
 
 
+def read(folder, name):
+    with open(os.path.join(folder, name), "rb") as file:
+        return file.read()
+
+
 def write(name, data):
     with open(os.path.join(FOLDER, name), "wb") as file:
         file.write(data)
+
+
+def gateway():
+    """What is sealed of mixed.pcap, and the reports. Opened, it has to be that capture again."""
+    capture = read(FOLDER, "mixed.pcap")
+    made = capture
+    for name, *_ in GATEWAY:
+        text = read(HERE, f"{name}.sessions").decode()
+        made, _, told = reference.crypt(text, made)
+        write(f"expected/{name}.report", told)
+        if name == "gateway":
+            write("expected/gateway.pcap", made)
+    if made != capture:
+        sys.exit("the sealed capture isn't taken back")
 
 
 def report(name, packets, last):
@@ -98,9 +147,7 @@ for name, source, key, salt, packets, last in CASES:
     output = "none"
     if packets is not None:
         output = f"expected/{name}.pcap"
-        with open(os.path.join(FOLDER, source + ".pcap"), "rb") as file:
-            capture = file.read()
-        made = answer(capture, key, salt, packets)
+        made = answer(read(FOLDER, source + ".pcap"), key, salt, packets)
         if source == "vector":
             # What is written is the published ciphertext, and openssl has to agree with it.
             if made[40:] != VECTOR:
@@ -113,4 +160,12 @@ for name, source, key, salt, packets, last in CASES:
 for name, words in USAGE:
     report(name, None, "status=2 usage")
     table.append(f"{name} vector.pcap 2 none {words}".rstrip())
+for name, source, output, words in GATEWAY:
+    table.append(f"{name} {source} 0 {output} {CRYPT} examples/{name}.sessions{words}")
+for name, words, last in REFUSED:
+    report(name, None, last)
+    table.append(f"{name} vector.pcap {last[len('status=')]} none {words}")
 write("cases.txt", "".join(f"{line}\n" for line in table).encode())
+if reference is None:
+    sys.exit(3)
+gateway()

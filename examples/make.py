@@ -90,6 +90,30 @@ def sized():
     return made
 
 
+# The length of an Ethernet header, and of small and large packets, of which some have whole blocks of
+# 16 bytes behind that header or altogether.
+MIXED = [14, 60, 30, 64, 62] * 7 + [142, 270, 526, 576, 1514]
+
+
+def mixed():
+    """Two hundred packets. Every third is UDP, where it has the byte 23 that says so, and the rest are TCP.
+
+    Byte 5, the last of the target's address, says the same: it stays readable where only what is behind
+    the Ethernet header is encrypted. Every seventh packet was cut by 100 bytes when it was captured.
+    """
+    made = head(rest=(0, 0, 262208, 1))
+    for n in range(200):
+        length = MIXED[n % len(MIXED)]
+        protocol = UDP if n % 3 == 0 and length > 23 else TCP
+        data = bytearray((7 * n + i) % 256 for i in range(length))
+        data[5] = protocol
+        if length > 23:
+            data[23] = protocol
+        original = length if n % 7 else length + 100
+        made += record(1700000000 + n, 5 * n, bytes(data), original=original)
+    return made
+
+
 SIXTY = TEN[5][0]
 GOOD = record(1700000000, 5, SIXTY)
 
@@ -99,6 +123,7 @@ FILES = {
     "ten-big-micro": ten(">", False),
     "ten-big-nano": ten(">", True),
     "sizes": sized(),
+    "mixed": mixed(),
     # The plaintext of the first test vector of RFC 3686.
     "vector": head() + record(1, 0, b"Single block msg"),
     "header-only": head(),

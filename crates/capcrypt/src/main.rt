@@ -1,5 +1,5 @@
-//! Reads a capture from standard input, encrypts each packet by itself, and writes the capture to
-//! standard output and a report to standard error.
+//! Reads a capture from standard input, encrypts, authenticates or opens each packet by itself, and writes the
+//! capture to standard output and a report to standard error.
 //!
 //! `run` is the whole program over any source and sinks, and its contract says all that the program
 //! promises. It is stated on a `Reading` of the capture, which is its header, its whole records and why

@@ -48,7 +48,7 @@ loop-first-smaller g c =
     let h = all_back entry_of c.loop-first.back.ops c.dequeue_burst-n.new.out.ops (g.D.Driver.held c.dequeue_burst-n.new.self) (g.D.Driver.held c.loop-first.dev) none c.dequeue_burst-n.ensures.held in
     let count : length c.dequeue_burst-n.new.out.ops ≡ c.dequeue_burst-n.result = omega (arith, c.dequeue_burst-n.ensures.count, ap length none) in
     let fewer = fewer_held entry_of c.dequeue_burst-n.new.out.ops (g.D.Driver.held c.loop-first.dev) (g.D.Driver.held c.dequeue_burst-n.new.self) c.dequeue_burst-n.result h count in
-    omega (arith, fewer, c.requires.size, c.requires.empty, c.room-size.ensures, ap length c.requires.empty)
+    omega (arith, fewer, c.requires.size, c.room-size.ensures, ap length c.requires.empty)
 
 pub loop-first-preserved : goal.loop-first-preserved
 loop-first-preserved g c =

@@ -4,3 +4,5 @@ pub mod SetUp
 pub mod Limits
 pub mod Stall
 pub mod Log
+pub mod Calls
+pub mod Offers

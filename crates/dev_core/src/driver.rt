@@ -57,6 +57,7 @@ pub trait Driver<C> {
     ghost use Rattle.dev_core.specs.declared.stats.Stats.{Stats};
     ghost use Rattle.dev_core.specs.Burst.{offered, lens, room_of, rest_of, front, front_log, added, with_ops};
     ghost use Rattle.dev_core.specs.Stats.{after_enqueue, after_dequeue};
+    ghost use Rattle.dev_core.specs.Calls.{Call, Offers, Asks};
 
     /// The entries of the operations that were accepted and not returned. Their order counts where the driver is `ordered`.
     ghost held: { Self → List (Entry C) };
@@ -83,6 +84,9 @@ pub trait Driver<C> {
     /// What every burst call keeps, by the state before it and the state after it.
     ghost follows: { Self → Self → Type 0 };
 
+    /// What a burst call does inside, by the state before it and the state after it.
+    ghost does: { Self → Call → Self → Type 0 } = { λ _ _ _. Unit {0} };
+
     /// Moves the first operations of the burst inside, at most `max`, and answers how many. The rest stays with the caller.
     fn enqueue_burst(&mut self, burst: &mut OpBurst<C>, max: usize) -> usize
         requires { All IsFresh (take max burst.old.ops) }
@@ -97,6 +101,7 @@ pub trait Driver<C> {
         ensures sessions { sessions self.new ≡ sessions self.old }
         ensures stats { stats self.new ≡ after_enqueue (offered max burst.old) result (stats self.old) }
         ensures log { log self.new ≡ option_map (λ l. l ++ front_log result burst.old) (log self.old) }
+        ensures does { does self.old (Offers (front_log max burst.old) result) self.new }
         ensures follows { follows self.old self.new };
 
     /// Moves answered operations behind those of `out`, at most `max`, and answers how many.
@@ -113,6 +118,7 @@ pub trait Driver<C> {
         ensures sessions { sessions self.new ≡ sessions self.old }
         ensures stats { stats self.new ≡ after_dequeue (min max (room_of out.old)) result (stats self.old) }
         ensures log { log self.new ≡ log self.old }
+        ensures does { does self.old (Asks (min max (room_of out.old)) result) self.new }
         ensures follows { follows self.old self.new };
 
     /// How many operations are held, or the last value of a `usize` where they are more.
@@ -164,8 +170,7 @@ pub trait Device<C>: Driver<C> {
         ensures held { OnOk result (Self.held self.new ≡ []) }
         ensures stats { OnOk result (Self.stats self.new ≡ no_stats) }
         ensures log { OnOk result (Self.log self.new ≡ option_map (λ l. []) (Self.log self.old)) }
-        ensures stalls { Self.stalls self.new ≡ Self.stalls self.old }
-        ensures order { Self.ordered self.old → Self.ordered self.new };
+        ensures stalls { Self.stalls self.new ≡ Self.stalls self.old };
 
     fn depth(&self) -> usize
         ensures { result ≡ limit self.now };
@@ -174,4 +179,6 @@ pub trait Device<C>: Driver<C> {
     ghost room_told: { (d : Self) → Self.room d ≡ Some (limit d - length (Self.held d)) };
 
     ghost keeps_depth: { (d e : Self) → Self.follows d e → limit e ≡ limit d };
+
+    ghost within_depth: { (d : Self) → length (Self.held d) ≤ limit d };
 }

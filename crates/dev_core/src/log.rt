@@ -220,6 +220,8 @@ impl<C, D: Device<C>> Device<C> for LogDriver<D> {
 
     ghost keeps_depth = { λ d e p. D.keeps_depth (inner_of d) (inner_of e) p };
 
+    ghost within_depth = { λ d. D.within_depth (inner_of d) };
+
     /// Sets the inner device up, and then empties the log.
     fn set_up(
         &mut self,
@@ -237,7 +239,6 @@ impl<C, D: Device<C>> Device<C> for LogDriver<D> {
         ensures stats { OnOk result (stats_of self.new ≡ no_stats) }
         ensures log { OnOk result (Some (log_of self.new) ≡ option_map (λ l. []) (Some (log_of self.old))) }
         ensures stalls { capped (D.stalls (inner_of self.new) + cuts_of self.new) ≡ capped (D.stalls (inner_of self.old) + cuts_of self.old) }
-        ensures order { D.ordered (inner_of self.old) → D.ordered (inner_of self.new) }
 
         // The cuts go on being counted where they were.
         ensures cuts { cuts_of self.new ≡ cuts_of self.old }

@@ -196,6 +196,8 @@ impl<C, D: Device<C>> Device<C> for StallDriver<D> {
 
     ghost keeps_depth = { λ d e p. D.keeps_depth (inner_of d) (inner_of e) p };
 
+    ghost within_depth = { λ d. D.within_depth (inner_of d) };
+
     /// Sets the inner device up. It goes on counting calls where it was.
     fn set_up(
         &mut self,
@@ -213,7 +215,6 @@ impl<C, D: Device<C>> Device<C> for StallDriver<D> {
         ensures stats { OnOk result (stats_of self.new ≡ no_stats) }
         ensures log { OnOk result (D.log (inner_of self.new) ≡ option_map (λ l. []) (D.log (inner_of self.old))) }
         ensures stalls { capped (D.stalls (inner_of self.new) + cuts_of self.new) ≡ capped (D.stalls (inner_of self.old) + cuts_of self.old) }
-        ensures order { D.ordered (inner_of self.old) → D.ordered (inner_of self.new) }
 
         // The calls go on being counted where they were.
         ensures enqueues { enqueues_of self.new ≡ enqueues_of self.old }

@@ -1,7 +1,7 @@
 //! A device that answers in order.
 ghost use Rattle.std.specs.Prelude.{◌≡◌, ◌-◌, ◌≤◌, min, length, map, None, Some, IfOk};
 ghost use Rattle.std.specs.List.{All};
-ghost use Rattle.std.proofs.Common.{refl, ◌∙◌};
+ghost use Rattle.std.proofs.Common.{refl, ◌∙◌, subst, sym};
 ghost use Rattle.std.proofs.lemmas.List.{length-map};
 ghost use Rattle.std.specs.VecDeque.{deque_len, deque_capacity};
 ghost use Rattle.std.specs.Arc.{arc_value};
@@ -117,6 +117,8 @@ impl<C> Device<C> for PlainDriver<C> {
     ghost room_told = { λ d. Prim.simp length-map };
 
     ghost keeps_depth = { λ d e p. p };
+
+    ghost within_depth = { λ d. subst (λ n. n ≤ depth_of d) (sym (length-map entry_of d.queue.items)) d.fits.0 };
 
     fn set_up(
         &mut self,

@@ -33,7 +33,8 @@ use Rattle.packet_flow.specs.Reads.{GoesOn, HasRead, IsWholeStop}
 use Rattle.packet_flow.specs.Slots.{IsBetween, IsFor, SlotSays, SlotsSay, WaitsAtFront, open_numbers}
 use Rattle.packet_flow.proofs.Answers.{entries_from-append, entries_from-one}
 use Rattle.packet_flow.proofs.Bags.{count-append}
-use Rattle.packet_flow.proofs.Ends.{begun_first, ends_cut, ends_early, first_answers}
+use Rattle.packet_flow.specs.Offers.{Flows}
+use Rattle.packet_flow.proofs.Ends.{begun_first, ends_cut, ends_early, first_answers, flows_any}
 use Rattle.packet_flow.proofs.InSlots.{SlotsSay-push, length-SlotsSay, open_numbers-open, open_numbers-ready}
 
 -- ---- one record more
@@ -166,6 +167,14 @@ module _ (plan : Plan) (b : Before) (s_tells k_tells : Type 0) (p : Passage) (o 
         ∙ ap (λ (l : List LogEntry). entries_from plan 0 u.used ++ l) new
         ∙ sym (entries_from-append plan 0 u.used (view rec ∷ []))
 
+    -- behind this record more may come
+    pub offers : (more : List LogEntry) → Flows b.size (entries_from plan 0 used ++ more) o.past
+    offers more =
+        let new = entries_from plan (0 + length u.used) (view rec ∷ []) in
+        subst (λ (l : List LogEntry). Flows b.size l o.past)
+        (sym (append_assoc (entries_from plan 0 u.used) new more) ∙ ap (λ (l : List LogEntry). l ++ more) (sym (entries_from-append plan 0 u.used (view rec ∷ []))))
+        (u.offers (new ++ more) (λ stop is none. absurd (omega (arith, ap length none, ap length waits))))
+
     so_far : used ++ map view rest ≡ u.used ++ map view p.waiting.items
     so_far = append_assoc u.used (view rec ∷ []) (map view rest) ∙ ap (λ (l : List Record). u.used ++ map view l) (sym waits)
 
@@ -191,7 +200,7 @@ module _ (plan : Plan) (b : Before) (s_tells k_tells : Type 0) (p : Passage) (o 
       begun_and_cut first counts counts_are cut =
           let now = counts_are plan used entries between counted in
           ends_cut plan b s_tells k_tells (record o { left = left; written = wrote' }) counts used u.taken (map log_entry burst.ops) first
-          (λ told. begun_first b.big b.bytes used (map view rest) p.place o.left p.stop (reads told)) queued u.device now.0 now.1
+          (λ told. begun_first b.big b.bytes used (map view rest) p.place o.left p.stop (reads told)) queued u.device u.took (λ told rs all_rest all. flows_any plan b.size o.past used rs offers (begun_first b.big b.bytes used (map view rest) p.place o.left p.stop (reads told) rs all_rest all)) now.0 now.1
           (λ told. subst (λ (x : Bool). CutAt x (answered_from plan 0 used) first b.base wrote') (sym big_is) (cut told plan used entries between b.base (wrote_first told)))
 
       -- what was ready was written, and the passage is as q in what changed
@@ -222,7 +231,9 @@ module _ (plan : Plan) (b : Before) (s_tells k_tells : Type 0) (p : Passage) (o 
         range = u.range;
         place = u.place;
         back = u.back;
-        sizes = (omega (arith, u.sizes.0, ap (λ (x : Burst (Op Card)). x.cap) burst_is, cap_is), u.sizes.1);
+        sizes = (ap (λ (x : Burst (Op Card)). x.cap) burst_is ∙ cap_is ∙ u.sizes.0, u.sizes.1, u.sizes.2);
+        took = u.took;
+        offers = λ more none. offers more;
       }
 
 -- ---- reading on
@@ -271,6 +282,8 @@ read_on plan b s_tells k_tells p q o big left left' wrote old big_is left_is wri
   place = place;
   back = u.back;
   sizes = u.sizes;
+  took = u.took;
+  offers = λ more none. u.offers more (λ stop is empty. absurd (let no : Some stop ≡ None = sym is ∙ goes in cc));
 }
 
 pub stop_read : (p q : Passage) (old : List Record) (stop : ReadStop) → p.stop ≡ None → p.waiting.items ≡ old → q.stop ≡ Some stop → p.place.records + length q.waiting.items ≡ q.place.records + length old

@@ -25,6 +25,8 @@ use Rattle.packet_flow.specs.Counts.{counts_of}
 use Rattle.packet_flow.specs.Entries.{entries_from}
 use Rattle.packet_flow.specs.Reads.{GoesOn, IsWholeStop, ReadsAs}
 use Rattle.packet_flow.specs.Flowed.{CutAt, Flowed, IsWrittenBy, answer_bytes}
+use Rattle.dev_core.specs.Calls.{Call}
+use Rattle.packet_flow.specs.Offers.{Flows, taken_by}
 use Rattle.packet_flow.specs.Passage.{Before, Outside, HasTaken, IsEarly, IsUnderway, EndsAs}
 use Rattle.packet_flow.proofs.InSlots.{length-SlotsSay}
 use Rattle.packet_flow.proofs.Answers.{answered_from-append, length-answered_from, entries_from-append}
@@ -38,6 +40,41 @@ begun_first big bytes used waiting place left (Some (BadCapture at cause)) on rs
 begun_first big bytes used waiting place left (Some (ReadStop.TooLarge value)) on rs rest all = let h = on rs rest all in (waiting, h.0)
 begun_first big bytes used waiting place left (Some Fault) on rs rest all = let h = on rs rest all in (waiting ++ h.0, h.1 ∙ append_assoc used waiting h.0)
 begun_first big bytes used waiting place left (Some OutOfMemory) on rs rest all = let h = on rs rest all in (waiting ++ h.0, h.1 ∙ append_assoc used waiting h.0)
+
+none_asked : (plan : Plan) (n : ℕ) → entries_from plan n [] ≡ []
+unfolding entries_from
+none_asked plan n = refl
+
+-- the calls of a flow, whatever comes behind the records that were begun
+pub flows_any : (plan : Plan) (size : ℕ) (past : List Call) (used rs : List Rec) → ((more : List LogEntry) → Flows size (entries_from plan 0 used ++ more) past) → (more : List Rec) × (rs ≡ used ++ more)
+    → Flows size (entries_from plan 0 rs) past
+flows_any plan size past used rs offers more =
+    subst (λ (l : List LogEntry). Flows size l past) (sym (entries_from-append plan 0 used more.0) ∙ ap (entries_from plan 0) (sym more.1)) (offers (entries_from plan (0 + length used) more.0))
+
+-- the records behind those that were begun: none, where the capture ended and none waits
+ended_here : (big : Bool) (bytes : List ℕ) (used : List Rec) (waiting : List Record) (place : Place) (left : List ℕ) (stop : Option ReadStop) → GoesOn big bytes (used ++ map view waiting) place left stop
+    → ((s : ReadStop) → stop ≡ Some s → IsWholeStop s)
+    → (rs : List Rec) (rest : Rest) → Records big first_place bytes rs rest → (more : List Rec) × (rs ≡ used ++ more) × ((s : ReadStop) → stop ≡ Some s → waiting ≡ [] → more ≡ [])
+ended_here big bytes used waiting place left None on whole rs rest all = let h = begun_first big bytes used (map view waiting) place left None on rs rest all in (h.0, h.1, λ s is none. absurd (let no : None ≡ Some s = is in cc))
+ended_here big bytes used waiting place left (Some ReadStop.End) on whole rs rest all = let h = on rs rest all in (map view waiting, h.0, λ s is none. ap (map view) none)
+ended_here big bytes used waiting place left (Some (BadCapture at cause)) on whole rs rest all = let h = on rs rest all in (map view waiting, h.0, λ s is none. ap (map view) none)
+ended_here big bytes used waiting place left (Some (ReadStop.TooLarge value)) on whole rs rest all = let h = on rs rest all in (map view waiting, h.0, λ s is none. ap (map view) none)
+ended_here big bytes used waiting place left (Some Fault) on whole rs rest all = absurd (whole Fault refl)
+ended_here big bytes used waiting place left (Some OutOfMemory) on whole rs rest all = absurd (whole OutOfMemory refl)
+
+-- the calls of a flow behind a turn, against the whole capture
+pub flows_behind : (plan : Plan) (b : Before) (s_tells k_tells : Type 0) (p : Passage) (o : Outside) (u : IsUnderway plan b s_tells k_tells p o) (now : List Call)
+    → ((more : List LogEntry) → ((stop : ReadStop) → p.stop ≡ Some stop → p.waiting.items ≡ [] → more ≡ []) → Flows b.size (entries_from plan 0 u.used ++ more) now)
+    → s_tells → (rs : List Rec) (rest : Rest) → Records b.big first_place b.bytes rs rest → Flows b.size (entries_from plan 0 rs) now
+flows_behind plan b s_tells k_tells p o u now offers told rs rest all =
+    let h = ended_here b.big b.bytes u.used p.waiting.items p.place o.left p.stop (u.reads told) (λ s is. (u.stopped s is).0) rs rest all in
+    subst (λ (l : List LogEntry). Flows b.size l now) (sym (entries_from-append plan 0 u.used h.0) ∙ ap (entries_from plan 0) (sym h.1))
+    (offers (entries_from plan (0 + length u.used) h.0) (λ s is none. ap (entries_from plan (0 + length u.used)) (h.2 s is none) ∙ none_asked plan (0 + length u.used)))
+
+-- the calls of a flow on the way, against the whole capture
+pub flows_now : (plan : Plan) (b : Before) (s_tells k_tells : Type 0) (p : Passage) (o : Outside) → IsUnderway plan b s_tells k_tells p o → s_tells → (rs : List Rec) (rest : Rest) → Records b.big first_place b.bytes rs rest
+    → Flows b.size (entries_from plan 0 rs) o.past
+flows_now plan b s_tells k_tells p o u told rs rest all = flows_behind plan b s_tells k_tells p o u o.past u.offers told rs rest all
 
 -- the answers to the first n records, also where there are more
 pub first_answers : (plan : Plan) (used more : List Rec) (n : ℕ) → n ≤ length used → take n (answered_from plan 0 (used ++ more)) ≡ take n (answered_from plan 0 used)
@@ -86,6 +123,8 @@ ends_early plan b s_tells k_tells p o end counts early no_write u same st kt rs 
       u.device,
       flowed plan b.big rs rest end counts b.base o.written u.used first.0 u.taken _ p.first first.1 u.queued u.between.begun (same ∙ u.counts) early
           (not_cut end b.big (answered_from plan 0 (u.used ++ first.0)) p.first b.base o.written no_write written),
+      u.took,
+      flows_now plan b s_tells k_tells p o u st rs rest all,
     )
 
 -- the next one is cut too where there are more behind
@@ -106,14 +145,18 @@ cut_before_more big plan used more n base new within cut =
 -- a record was cut in writing: n stand whole of the answers to the records that were begun
 pub ends_cut : (plan : Plan) (b : Before) (s_tells k_tells : Type 0) (o : Outside) (counts : Counts) (used : List Rec) (taken queued : List LogEntry) (n : ℕ)
     → (s_tells → (rs : List Rec) (rest : Rest) → Records b.big first_place b.bytes rs rest → (more : List Rec) × (rs ≡ used ++ more))
-    → taken ++ queued ≡ entries_from plan 0 used → HasTaken b taken o.enqueued o.log → n ≤ length used → counts ≡ counts_of (take n (answered_from plan 0 used))
+    → taken ++ queued ≡ entries_from plan 0 used → HasTaken b taken o.enqueued o.log → length taken ≡ taken_by o.past
+    → (s_tells → (rs : List Rec) (rest : Rest) → Records b.big first_place b.bytes rs rest → Flows b.size (entries_from plan 0 rs) o.past)
+    → n ≤ length used → counts ≡ counts_of (take n (answered_from plan 0 used))
     → (k_tells → CutAt b.big (answered_from plan 0 used) n b.base o.written) → EndsAs plan b s_tells k_tells WriteFault counts o
-ends_cut plan b s_tells k_tells o counts used taken queued n reads all device within same cut st kt rs rest got =
+ends_cut plan b s_tells k_tells o counts used taken queued n reads all device took flows within same cut st kt rs rest got =
     let first = reads st rs rest got in (
       taken,
       device,
       flowed plan b.big rs rest WriteFault counts b.base o.written used first.0 taken queued n first.1 all within same (λ w. w)
           (cut_before_more b.big plan used first.0 n b.base o.written within (cut kt)),
+      took,
+      flows st rs rest got,
     )
 
 -- where the stop is whole, those that were read are all
@@ -148,4 +191,6 @@ ends_whole plan b s_tells k_tells p o stop u stopped read offered written told t
         front = taken_is ∙ sym (take_all (length (entries_from plan 0 rs)) (entries_from plan 0 rs) (omega arith));
         whole = λ _. record { records = count; stop = whole.1; taken = taken_is };
       },
+      u.took,
+      flows_now plan b s_tells k_tells p o u told rs rest all,
     )

@@ -6,3 +6,4 @@ mod Ends
 mod Settling
 mod WholeReading
 mod Turning
+mod Calling

@@ -4,7 +4,7 @@ use Rattle.std.specs.Int.{from_bool}
 use Rattle.std.specs.Prelude.{Option, None, Some, Result, Ok, Err, IfErr, IsErrAnd}
 use Rattle.std.specs.List.{All, flat_map}
 use Rattle.std.proofs.lemmas.Bool.Decides.{nat_tests}
-use Rattle.std.proofs.lemmas.List.{append-nil, nil_from_length, length-map, map-append, take-append-drop}
+use Rattle.std.proofs.lemmas.List.{append-nil, nil_from_length, length-map, map-append, take-append-drop, take_all}
 use Rattle.std.proofs.lemmas.List.Sums.{count_by-le-length}
 use Rattle.crypto_model.specs.Counts.{capped, Rose}
 use Rattle.crypto_op.specs.declared.spec.Card.{Card}
@@ -29,7 +29,10 @@ use Rattle.packet_flow.specs.declared.slots.Slot.TheVariants.{Open, Ready}
 use Rattle.packet_flow.specs.Counts.{counts_of}
 use Rattle.packet_flow.specs.Entries.{entry_for, entries_for, entries_from}
 use Rattle.packet_flow.specs.Flowed.{CutAt, answer_bytes}
-use Rattle.packet_flow.specs.Passage.{Before, Outside, HasTaken, IsUnderway, EndsAs, IsNew}
+use Rattle.std.proofs.Math.Seq.{take-append_seam, drop-append_seam}
+use Rattle.dev_core.specs.Calls.{Call, Offers}
+use Rattle.packet_flow.specs.Offers.{OnlyAsked, Flows, IsAt, IsDrained, next_burst, rest_of_burst, taken_by}
+use Rattle.packet_flow.specs.Passage.{Before, Outside, HasTaken, IsFilled, IsUnderway, EndsAs, IsNew}
 use Rattle.packet_flow.specs.Reads.{GoesOn, HasRead, IsWholeStop}
 use Rattle.packet_flow.specs.Slots.{IsBetween, SlotsSay, WaitsAtFront, open_numbers}
 use Rattle.packet_flow.proofs.InSlots.{count-cons, one, same_told}
@@ -187,9 +190,9 @@ fewer_left held held' enqueued enqueued' stalled moved r is few few' balance wit
 -- ---- before the first turn
 
 -- nothing was begun
-pub ends_unbegun : (plan : Plan) (b : Before) (s_tells k_tells : Type 0) (o : Outside) (counts : Counts) → HasTaken b [] o.enqueued o.log → o.written ≡ b.base → counts ≡ counts_of []
+pub ends_unbegun : (plan : Plan) (b : Before) (s_tells k_tells : Type 0) (o : Outside) (counts : Counts) → o.past ≡ [] → HasTaken b [] o.enqueued o.log → o.written ≡ b.base → counts ≡ counts_of []
     → EndsAs plan b s_tells k_tells flow_end.OutOfMemory counts o
-ends_unbegun plan b s_tells k_tells o counts device written same told tells rs rest all = (
+ends_unbegun plan b s_tells k_tells o counts no_call device written same told tells rs rest all = (
   [],
   device,
   record {
@@ -201,6 +204,8 @@ ends_unbegun plan b s_tells k_tells o counts device written same told tells rs r
     front = refl;
     whole = λ w. absurd w;
   },
+  ap taken_by (sym no_call),
+  subst (Flows b.size (entries_from plan 0 rs)) (sym no_call) tt,
 )
 
 none_between : (plan : Plan) (first : ℕ) (ss : List Slot) (entries : List (Entry Card)) → first ≡ 0 → ss ≡ [] → entries ≡ [] → IsBetween plan [] first ss entries
@@ -223,9 +228,9 @@ none_written : (big : Bool) (plan : Plan) (n : ℕ) (base new : List ℕ) → n 
 none_written big plan n base new none is =
     is ∙ sym (append-nil base) ∙ ap (λ (k : ℕ). base ++ flat_map (answer_bytes big) (take k (answered_from plan 0 []))) (sym none)
 
-pub new_underway : (plan : Plan) (b : Before) (s_tells k_tells : Type 0) (size : ℕ) (p : Passage) (o : Outside) → 1 ≤ size → IsNew size p → HasTaken b [] o.enqueued o.log
+pub new_underway : (plan : Plan) (b : Before) (s_tells k_tells : Type 0) (size : ℕ) (p : Passage) (o : Outside) → 1 ≤ size → b.size ≡ size → o.past ≡ [] → IsNew size p → HasTaken b [] o.enqueued o.log
     → o.left ≡ b.bytes → o.written ≡ b.base → o.held ≡ [] → IsUnderway plan b s_tells k_tells p o
-new_underway plan b s_tells k_tells size p o some new device left written held =
+new_underway plan b s_tells k_tells size p o some size_is no_call new device left written held =
     let burst : p.burst.ops ≡ [] = ap (λ (x : Burst (Op Card)). x.ops) new.burst in
     let offered : map (log_entry {C = Card}) p.burst.ops ≡ [] = ap (map log_entry) burst in
     record {
@@ -247,5 +252,62 @@ new_underway plan b s_tells k_tells size p o some new device left written held =
       range = omega (arith, ap (λ (x : Place). x.records) new.place);
       place = omega (arith, ap (λ (x : Place). x.at) new.place);
       back = ap (λ (x : Burst (Op Card)). x.ops) new.back;
-      sizes = (omega (arith, some, ap (λ (x : Burst (Op Card)). x.cap) new.burst), omega (arith, some, ap (λ (x : Burst (Op Card)). x.cap) new.back));
+      sizes = (ap (λ (x : Burst (Op Card)). x.cap) new.burst ∙ sym size_is, ap (λ (x : Burst (Op Card)). x.cap) new.back ∙ sym size_is, omega (arith, some, size_is));
+      took = ap taken_by (sym no_call);
+      offers = λ more none. subst (Flows b.size (entries_from plan 0 [] ++ more)) (sym no_call) tt;
     }
+
+-- ---- what is offered
+
+map_drop : {X Y : Type 0} (f : X → Y) (n : ℕ) (xs : List X) → map f (drop n xs) ≡ drop n (map f xs)
+map_drop f zero xs = refl
+map_drop f (suc n) [] = refl
+map_drop f (suc n) (x ∷ xs) = map_drop f n xs
+
+-- the burst that is left is offered
+same_burst : (size : ℕ) (ops : List LogEntry) (k : ℕ) (r burst : List LogEntry) → burst ≡ r → 0 < length r → burst ≡ next_burst size ops k r
+same_burst size ops k [] burst is some = absurd (omega (arith, some))
+same_burst size ops k (x ∷ xs) burst is some = is
+
+-- or the next operations are
+new_burst : (size k : ℕ) (taken burst more : List LogEntry) → k ≡ length taken → (length burst ≡ size) ⊎ ((more ≡ []) × (length burst ≤ size)) → burst ≡ next_burst size ((taken ++ burst) ++ more) k []
+new_burst size k taken burst more at filled =
+    let behind : drop k ((taken ++ burst) ++ more) ≡ burst ++ more = ap (λ (l : List LogEntry). drop k l) (append_assoc taken burst more) ∙ ap (λ (n : ℕ). drop n (taken ++ (burst ++ more))) at ∙ drop-append_seam taken (burst ++ more) in
+    elim filled [
+        inl full ↦ sym (ap (take size) behind ∙ ap (λ (n : ℕ). take n (burst ++ more)) (sym full) ∙ take-append_seam burst more)
+      | inr all ↦ sym (ap (take size) behind ∙ ap (λ (l : List LogEntry). take size (burst ++ l)) all.0 ∙ ap (take size) (append-nil burst) ∙ take_all size burst all.1)
+    ]
+
+module _ (plan : Plan) (b : Before) (s_tells k_tells : Type 0) (old p : Passage) (o : Outside) (u : IsUnderway plan b s_tells k_tells p o) (at : IsAt o.past old.burst.ops) (filled : IsFilled old p) where
+  right_burst : (more : List LogEntry) → ((stop : ReadStop) → p.stop ≡ Some stop → p.waiting.items ≡ [] → more ≡ [])
+      → map log_entry p.burst.ops ≡ next_burst b.size (entries_from plan 0 u.used ++ more) (taken_by o.past) (rest_of_burst o.past)
+  right_burst more none = elim filled [
+      inl same ↦
+        let is : map log_entry p.burst.ops ≡ rest_of_burst o.past = ap (λ (x : Burst (Op Card)). map log_entry x.ops) same.1 ∙ at.rest in
+        same_burst b.size (entries_from plan 0 u.used ++ more) (taken_by o.past) (rest_of_burst o.past) (map log_entry p.burst.ops) is
+        (omega (arith, same.0, length-map old.burst.ops (log_entry {C = Card}), ap length at.rest))
+    | inr new ↦
+        let no_rest : rest_of_burst o.past ≡ [] = sym at.rest ∙ ap (map log_entry) new.0 in
+        let count = length-map p.burst.ops (log_entry {C = Card}) in
+        let full : (length (map log_entry p.burst.ops) ≡ b.size) ⊎ ((more ≡ []) × (length (map log_entry p.burst.ops) ≤ b.size)) =
+        elim new.2 [ inl f ↦ inl (count ∙ f ∙ u.sizes.0) | inr end ↦ inr (none end.1 end.2 end.0, omega (arith, count, new.1, u.sizes.0)) ] in
+        new_burst b.size (taken_by o.past) u.taken (map log_entry p.burst.ops) more (sym u.took) full
+        ∙ ap (λ (l : List LogEntry). next_burst b.size (l ++ more) (taken_by o.past) []) u.queued
+        ∙ ap (next_burst b.size (entries_from plan 0 u.used ++ more) (taken_by o.past)) (sym no_rest)
+  ]
+
+  -- the calls of a turn go on as they should
+  pub offers_on : (n : ℕ) (now : List Call) → n ≤ length p.burst.ops → OnlyAsked (Offers (map log_entry p.burst.ops) n ∷ o.past) now
+      → (more : List LogEntry) → ((stop : ReadStop) → p.stop ≡ Some stop → p.waiting.items ≡ [] → more ≡ []) → Flows b.size (entries_from plan 0 u.used ++ more) now
+  offers_on n now within asked more none =
+      asked.flows b.size (entries_from plan 0 u.used ++ more)
+      (right_burst more none, omega (arith, within, length-map p.burst.ops (log_entry {C = Card})), at.drained, u.offers more none)
+
+  pub took_on : (n : ℕ) (now : List Call) → n ≤ length p.burst.ops → OnlyAsked (Offers (map log_entry p.burst.ops) n ∷ o.past) now → length (u.taken ++ front_log n p.burst) ≡ taken_by now
+  took_on n now within asked = omega (arith, length-append u.taken (front_log n p.burst), length-front_log n p.burst within, u.took, asked.taken)
+
+  pub at_rest : (n : ℕ) (rest : Burst (Op Card)) (now : List Call) → rest ≡ rest_of n p.burst → IsDrained now → OnlyAsked (Offers (map log_entry p.burst.ops) n ∷ o.past) now → IsAt now rest.ops
+  at_rest n rest now is drained asked = record {
+    drained = drained;
+    rest = ap (λ (x : Burst (Op Card)). map log_entry x.ops) is ∙ map_drop log_entry n p.burst.ops ∙ sym asked.rest;
+  }

@@ -1,5 +1,5 @@
 -- A capture on its way: what was read, begun, taken and written so far.
-use Rattle.std.specs.Prelude.{◌≡◌, ◌<◌, ◌≤◌, ◌+◌, ◌*◌, ◌^◌, ◌++◌, ℕ, Bool, List, [], length, map, take, Option, None, Some, option_map}
+use Rattle.std.specs.Prelude.{◌≡◌, ◌<◌, ◌≤◌, ◌+◌, ◌*◌, ◌^◌, ◌++◌, ◌⊎◌, ℕ, Bool, List, [], length, map, take, Option, None, Some, option_map}
 use Rattle.std.specs.List.{All, flat_map}
 use Rattle.crypto_model.specs.Counts.{capped}
 use Rattle.crypto_op.specs.declared.spec.Card.{Card}
@@ -15,25 +15,31 @@ use Rattle.packet_flow.specs.declared.passage.Passage.{Passage}
 use Rattle.packet_flow.specs.declared.flow.FlowEnd.{FlowEnd}
 use Rattle.packet_flow.specs.Counts.{counts_of}
 use Rattle.packet_flow.specs.Entries.{entries_from}
+use Rattle.dev_core.specs.Calls.{Call}
+use Rattle.packet_flow.specs.Offers.{Flows, taken_by}
 use Rattle.packet_flow.specs.Flowed.{EndsWhole, Flowed, answer_bytes}
 use Rattle.capture_io.specs.declared.header.ReadStop.{ReadStop}
 use Rattle.packet_flow.specs.Reads.{GoesOn, IsWholeStop}
 use Rattle.packet_flow.specs.Slots.{IsBetween, WaitsAtFront}
 
--- what there was before the first packet: the capture behind its header, what was written, and the driver's log
+-- what there was before the first packet: the capture behind its header, what was written, the driver's log, and the
+-- burst size
 pub record Before : Type 0 where
   pub big : Bool
   pub bytes : List ℕ
   pub base : List ℕ
   pub log : Option (List LogEntry)
+  pub size : ℕ
 
--- what there is now outside: what is left of the capture, what is written, and what the driver holds and counts
+-- what there is now outside: what is left of the capture, what is written, what the driver holds and counts, and the
+-- calls that it has answered
 pub record Outside : Type 0 where
   pub left : List ℕ
   pub written : List ℕ
   pub held : List (Entry Card)
   pub enqueued : ℕ
   pub log : Option (List LogEntry)
+  pub past : List Call
 
 -- the driver counts these operations, and its log tells them, if it tells any
 pub record HasTaken (b : Before) (taken : List LogEntry) (enqueued : ℕ) (log : Option (List LogEntry)) : Type 0 where
@@ -60,12 +66,20 @@ pub record IsUnderway (plan : Plan) (b : Before) (s_tells k_tells : Type 0) (p :
   pub range : p.place.records < 2 ^ 32
   pub place : p.place.at ≤ 24 + 262160 * p.place.records
   pub back : p.back.ops ≡ []
-  pub sizes : (0 < p.burst.cap) × (0 < p.back.cap)
+  pub sizes : (p.burst.cap ≡ b.size) × (p.back.cap ≡ b.size) × (0 < b.size)
+  pub took : length taken ≡ taken_by o.past
+  pub offers : (more : List LogEntry) → ((stop : ReadStop) → p.stop ≡ Some stop → p.waiting.items ≡ [] → more ≡ []) → Flows b.size (entries_from plan 0 used ++ more) o.past
 
 -- It ended so, by every reading of the capture.
 abbrev pub EndsAs : Plan → Before → Type 0 → Type 0 → FlowEnd → Counts → Outside → Type 0
 EndsAs plan b s_tells k_tells end counts o = s_tells → k_tells → (rs : List Rec) (rest : Rest) → Records b.big first_place b.bytes rs rest
     → (taken : List LogEntry) × HasTaken b taken o.enqueued o.log × Flowed plan b.big rs rest end counts b.base o.written taken
+    × (length taken ≡ taken_by o.past) × Flows b.size (entries_from plan 0 rs) o.past
+
+-- The burst is as it was, where something was left of it. Else it is full, or the capture ended.
+abbrev pub IsFilled : Passage → Passage → Type 0
+IsFilled old new = ((0 < length old.burst.ops) × (new.burst ≡ old.burst))
+    ⊎ ((old.burst.ops ≡ []) × (length new.burst.ops ≤ new.burst.cap) × ((length new.burst.ops ≡ new.burst.cap) ⊎ ((new.waiting.items ≡ []) × (stop : ReadStop) × (new.stop ≡ Some stop))))
 
 -- nothing is read yet
 pub record IsNew (size : ℕ) (p : Passage) : Type 0 where

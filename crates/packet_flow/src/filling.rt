@@ -3,7 +3,7 @@ ghost use Rattle.std.specs.Prelude.{◌≡◌, ◌<◌, ◌≤◌, ◌+◌, ◌�
 ghost use Rattle.crypto_model.specs.Counts.{Rose};
 ghost use Rattle.capture_io.specs.Capture.{view};
 ghost use Rattle.capture_io.specs.Limits.{IsSmall};
-ghost use Rattle.packet_flow.specs.Passage.{Before, EndsAs, IsEarly, IsUnderway, Outside};
+ghost use Rattle.packet_flow.specs.Passage.{Before, EndsAs, IsEarly, IsFilled, IsUnderway, Outside};
 ghost use Rattle.capture_io.specs.declared.header.ReadStop.{ReadStop};
 ghost use Rattle.packet_flow.specs.Filling.{AddsSlot, left_to_begin};
 
@@ -110,6 +110,7 @@ pub(crate) fn fill<S: Source, K: Sink>(
         → OnOk result (IsUnderway plan.now b S.tells K.tells passage.new (record o { left = S.left src.new; written = K.written out.new })) }
     ensures ends { (b : Before) (o : Outside) → b.big ≡ header.now.big → o.left ≡ S.left src.old → o.written ≡ K.written out.old → IsUnderway plan.now b S.tells K.tells passage.old o
         → IfErr result (λ end. EndsAs plan.now b S.tells K.tells end passage.new.counts (record o { left = S.left src.new; written = K.written out.new })) }
+    ensures filled { OnOk result (IsFilled passage.old passage.new) }
     ensures full { OnOk result ((0 < length passage.new.burst.ops) ⊎ ((passage.new.waiting.items ≡ []) × (stop : ReadStop) × (passage.new.stop ≡ Some stop))) }
     ensures read_later { S.faults src.old ≤ S.faults src.new }
     ensures read_cause { result ≡ Err (FlowEnd.Stopped ReadStop.Fault) → Rose (S.faults src.old) (S.faults src.new) }

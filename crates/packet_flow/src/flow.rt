@@ -6,6 +6,8 @@ ghost use Rattle.dev_core.specs.Stats.{no_stats};
 ghost use Rattle.packet_plan.specs.Asked.{sessions_of};
 ghost use Rattle.packet_flow.specs.Passage.{Before, EndsAs, IsUnderway, Outside};
 ghost use Rattle.packet_flow.specs.Turns.{NeverIdle};
+ghost use Rattle.packet_flow.specs.Offers.{IsAt};
+ghost use Rattle.dev_core.specs.Calls.{Call, Ran};
 
 use crate::counts::Counts;
 use crate::filling::fill;
@@ -67,11 +69,11 @@ fn step<S: Source, K: Sink, D: Driver<Card>>(
 ) -> Result<u64, FlowEnd>
     requires sessions { D.sessions dev.old ≡ sessions_of plan.now }
     requires works { NeverIdle D.admits D.held dev.old }
-    requires underway { (b : Before) × (b.big ≡ header.now.big) × IsUnderway plan.now b S.tells K.tells passage.old (record { left = S.left src.old; written = K.written out.old; held = D.held dev.old; enqueued = (D.stats dev.old).enqueued; log = D.log dev.old }) }
-    ensures underway { (b : Before) → b.big ≡ header.now.big → IsUnderway plan.now b S.tells K.tells passage.old (record { left = S.left src.old; written = K.written out.old; held = D.held dev.old; enqueued = (D.stats dev.old).enqueued; log = D.log dev.old })
-        → OnOk result (IsUnderway plan.now b S.tells K.tells passage.new (record { left = S.left src.new; written = K.written out.new; held = D.held dev.new; enqueued = (D.stats dev.new).enqueued; log = D.log dev.new })) }
-    ensures ends { (b : Before) → b.big ≡ header.now.big → IsUnderway plan.now b S.tells K.tells passage.old (record { left = S.left src.old; written = K.written out.old; held = D.held dev.old; enqueued = (D.stats dev.old).enqueued; log = D.log dev.old })
-        → IfErr result (λ end. EndsAs plan.now b S.tells K.tells end passage.new.counts (record { left = S.left src.new; written = K.written out.new; held = D.held dev.new; enqueued = (D.stats dev.new).enqueued; log = D.log dev.new })) }
+    requires underway { (b : Before) × (past : List Call) × (b.big ≡ header.now.big) × IsAt past passage.old.burst.ops × IsUnderway plan.now b S.tells K.tells passage.old (record { left = S.left src.old; written = K.written out.old; held = D.held dev.old; enqueued = (D.stats dev.old).enqueued; log = D.log dev.old; past = past }) }
+    ensures underway { (b : Before) (past : List Call) (first : D) → b.big ≡ header.now.big → IsAt past passage.old.burst.ops → Ran D.does first past dev.old → IsUnderway plan.now b S.tells K.tells passage.old (record { left = S.left src.old; written = K.written out.old; held = D.held dev.old; enqueued = (D.stats dev.old).enqueued; log = D.log dev.old; past = past })
+        → OnOk result ((now : List Call) × IsAt now passage.new.burst.ops × Ran D.does first now dev.new × IsUnderway plan.now b S.tells K.tells passage.new (record { left = S.left src.new; written = K.written out.new; held = D.held dev.new; enqueued = (D.stats dev.new).enqueued; log = D.log dev.new; past = now })) }
+    ensures ends { (b : Before) (past : List Call) (first : D) → b.big ≡ header.now.big → IsAt past passage.old.burst.ops → Ran D.does first past dev.old → IsUnderway plan.now b S.tells K.tells passage.old (record { left = S.left src.old; written = K.written out.old; held = D.held dev.old; enqueued = (D.stats dev.old).enqueued; log = D.log dev.old; past = past })
+        → IfErr result (λ end. (now : List Call) × Ran D.does first now dev.new × EndsAs plan.now b S.tells K.tells end passage.new.counts (record { left = S.left src.new; written = K.written out.new; held = D.held dev.new; enqueued = (D.stats dev.new).enqueued; log = D.log dev.new; past = now })) }
     ensures moved { IfOk result (λ n. n + length (D.held dev.new) + 2 * (D.stats dev.old).enqueued ≡ length (D.held dev.old) + 2 * (D.stats dev.new).enqueued) }
     ensures cause { IfOk result (λ n. n ≡ 0 → Rose (D.stalls dev.old) (D.stalls dev.new)) }
     ensures ended { S.tells → result ≡ Err (FlowEnd.Stopped ReadStop.End) → S.left src.new ≡ [] }
@@ -137,8 +139,9 @@ pub fn transfer<S: Source, K: Sink, D: Driver<Card>>(
     requires stats { D.stats dev.old ≡ no_stats }
     requires log { D.log dev.old ≡ option_map (λ l. []) (D.log dev.old) }
     requires works { (d : D) → D.follows dev.old d → NeverIdle D.admits D.held d }
-    ensures ends { EndsAs plan.now (record { big = header.now.big; bytes = S.left src.old; base = K.written out.old; log = D.log dev.old }) S.tells K.tells result.end result.counts
-        (record { left = S.left src.new; written = K.written out.new; held = D.held dev.new; enqueued = (D.stats dev.new).enqueued; log = D.log dev.new }) }
+    // The calls that it made, and nothing else, lead from the driver before to the driver now, and offer the operations so.
+    ensures ends { (now : List Call) × Ran D.does dev.old now dev.new × EndsAs plan.now (record { big = header.now.big; bytes = S.left src.old; base = K.written out.old; log = D.log dev.old; size = size }) S.tells K.tells result.end result.counts
+        (record { left = S.left src.new; written = K.written out.new; held = D.held dev.new; enqueued = (D.stats dev.new).enqueued; log = D.log dev.new; past = now }) }
     ensures ended { S.tells → result.end ≡ FlowEnd.Stopped ReadStop.End → S.left src.new ≡ [] }
     ensures stalled { result.end ≡ FlowEnd.Stalled → capped (D.stalls dev.old + 4096 * (1 + (D.stats dev.new).enqueued)) ≤ D.stalls dev.new }
     ensures stalls { D.stalls dev.old ≤ D.stalls dev.new }

@@ -1,14 +1,16 @@
 //! One turn of a queue pair.
-ghost use Rattle.std.specs.Prelude.{◌≡◌, ◌+◌, ◌≤◌, ◌<◌, ◌^◌, [], ◌++◌, List, length, map, option_map};
+ghost use Rattle.std.specs.Prelude.{◌≡◌, ◌+◌, ◌≤◌, ◌<◌, ◌^◌, [], ◌∷◌, ◌++◌, List, length, map, option_map};
 ghost use Rattle.std.specs.List.{All};
 ghost use Rattle.capture_io.specs.Capture.{Rec};
 ghost use Rattle.crypto_model.specs.Counts.{capped, Rose};
 ghost use Rattle.crypto_op.specs.declared.spec.Card.{Card};
 ghost use Rattle.crypto_op.specs.Op.{Entry, IsFresh, entry_of};
-ghost use Rattle.dev_core.specs.Burst.{front_log, rest_of};
+ghost use Rattle.dev_core.specs.Burst.{front_log, log_entry, rest_of};
+ghost use Rattle.dev_core.specs.Calls.{Call, Offers, Ran};
 ghost use Rattle.packet_plan.specs.Asked.{sessions_of};
 ghost use Rattle.packet_flow.specs.Slots.{IsBetween};
 ghost use Rattle.packet_flow.specs.Turns.{NeverIdle};
+ghost use Rattle.packet_flow.specs.Offers.{IsDrained, OnlyAsked};
 
 use crate::slots::{Slot, settle_all};
 use crypto_op::{Card, OpBurst};
@@ -38,6 +40,7 @@ fn drain<D: Driver<Card>>(
     ensures sessions { D.sessions dev.new ≡ D.sessions dev.old }
     ensures enqueued { (D.stats dev.new).enqueued ≡ (D.stats dev.old).enqueued }
     ensures log { D.log dev.new ≡ D.log dev.old }
+    ensures calls { (first : D) (past : List Call) → Ran D.does first past dev.old → (now : List Call) × Ran D.does first now dev.new × IsDrained now × OnlyAsked past now }
     ensures follows { D.follows dev.old dev.new }
 {
     let size = back.room();
@@ -79,6 +82,7 @@ pub(crate) fn turn<D: Driver<Card>>(
     ensures sessions { D.sessions dev.new ≡ D.sessions dev.old }
     ensures enqueued { (D.stats dev.new).enqueued ≡ capped ((D.stats dev.old).enqueued + result.0) }
     ensures log { D.log dev.new ≡ option_map (λ l. l ++ front_log result.0 burst.old) (D.log dev.old) }
+    ensures calls { (first : D) (past : List Call) → Ran D.does first past dev.old → (now : List Call) × Ran D.does first now dev.new × IsDrained now × OnlyAsked (Offers (map log_entry burst.old.ops) result.0 ∷ past) now }
     ensures follows { D.follows dev.old dev.new }
 {
     let accepted = dev.enqueue_burst(burst, burst.len());

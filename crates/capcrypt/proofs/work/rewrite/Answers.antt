@@ -29,7 +29,7 @@ returns-clause-job g c s_told k_told rs rest reads =
     let old = g.K.Sink.written c.args.out.now in
     let base = g.K.Sink.written c.write_header.new.sink in
     let wrote : base ≡ old ++ header_bytes (raised h) = rw c.raise.ensures at (c.in_default.ensures.written k_told) in
-    let all = c.transfer-flow.ensures.ends s_told k_told rs rest reads in
+    let all = c.transfer-flow.ensures.ends.2 s_told k_told rs rest reads in
     flowed plan h rs rest _ old base (g.K.Sink.written c.transfer-flow.new.out) (g.D.Driver.log c.args.dev.now) _ c.transfer-flow.result.end all.0
     (g.met.D.Device.keeps_depth c.args.dev.now c.transfer-flow.new.dev c.transfer-flow.ensures.follows ∙ c.requires.depth) (c.transfer-flow.ensures.sessions ∙ c.requires.sessions) wrote
     c.ending_of_flow.ensures refl all.1.enqueued_is all.1.log_is all.2

@@ -24,4 +24,4 @@ pub returns-after-loop-passage-clause-full : goal.returns-after-loop-passage-cla
 returns-after-loop-passage-clause-full g c =
     let r = c.requires.underway in
     let u = c.loop-passage.invariant.underway r.0 r.1 r.2 r.3 r.4 r.5 in
-    inl (omega (arith, u.sizes.0, c.room.ensures))
+    inl (omega (arith, u.sizes.0, u.sizes.2, c.room.ensures))

@@ -12,98 +12,106 @@ use Rattle.capture_io.specs.declared.header.ReadStop.{ReadStop}
 use Rattle.packet_plan.specs.Answered.{answered_from}
 use Rattle.packet_flow.specs.Entries.{entries_from}
 use Rattle.packet_flow.specs.declared.flow.FlowEnd.TheVariants as flow_end
-use Rattle.packet_flow.proofs.Ends.{begun_first, ends_cut, ends_whole}
-use Rattle.packet_flow.proofs.Turning.{few_taken, few_held, queued_on, device_on, few_on, moved_by, some_moves, all_read, no_items, some_items, no_fault, written_by, cut_by, if_err_at, not_err_at}
+use Rattle.packet_flow.specs.Passage.{Outside}
+use Rattle.packet_flow.proofs.Ends.{begun_first, ends_cut, ends_whole, flows_behind}
+use Rattle.packet_flow.proofs.Turning.{few_taken, few_held, queued_on, device_on, few_on, moved_by, some_moves, all_read, no_items, some_items, no_fault, written_by, cut_by, if_err_at, not_err_at, at_rest, offers_on, took_on}
 use Rattle.packet_flow.proofs.flow.step.Goals.{else-len-eq0-via-then-len-eq0+else-is_empty, else-len-eq0-via-else-len-eq0}
 use Rattle.packet_flow.proofs.flow.step.Goals as goal
 
 pub returns-in_err-fill-clause-ends : goal.returns-in_err-fill-clause-ends
-returns-in_err-fill-clause-ends g c b big u =
-    if_err_at c.from_residual.result c.in_err-fill.field-0.0 _ c.from_residual.ensures.1 (c.in_err-fill.ensures.ends b _ big refl refl u)
+returns-in_err-fill-clause-ends g c b past first big at ran u =
+    if_err_at c.from_residual.result c.in_err-fill.field-0.0 _ c.from_residual.ensures.1 (past, ran, c.in_err-fill.ensures.ends b _ big refl refl u)
 
 pub returns-in_err-fill-clause-never : goal.returns-in_err-fill-clause-never
 returns-in_err-fill-clause-never g c =
     not_err_at c.from_residual.result c.in_err-fill.field-0.0 flow_end.Stalled c.from_residual.ensures.1 (λ is. c.in_err-fill.ensures.never (ap Err is))
 
 pub returns-then-is_empty-clause-ends : goal.returns-then-is_empty-clause-ends
-returns-then-is_empty-clause-ends g c b big u0 =
+returns-then-is_empty-clause-ends g c b past first big at ran u0 =
     let p = c.fill.new.passage in
     let u = c.in_ok-fill.ensures.underway b _ big refl refl u0 in
     let none : length p.burst.ops ≡ 0 = omega (arith, c.len.ensures, c.if-len-eq0.true) in
-    ends_whole c.args.plan.now b g.S.Source.tells g.K.Sink.tells p
-    (record { left = g.S.Source.left c.fill.new.src; written = g.K.Sink.written c.fill.new.out; held = g.D.Driver.held c.args.dev.now; enqueued = (g.D.Driver.stats c.args.dev.now).enqueued; log = g.D.Driver.log c.args.dev.now })
+    (past, ran, ends_whole c.args.plan.now b g.S.Source.tells g.K.Sink.tells p
+    (record { left = g.S.Source.left c.fill.new.src; written = g.K.Sink.written c.fill.new.out; held = g.D.Driver.held c.args.dev.now; enqueued = (g.D.Driver.stats c.args.dev.now).enqueued; log = g.D.Driver.log c.args.dev.now; past = past })
     c.in-Some.stop u c.in-Some.is (all_read (length p.burst.ops) p.waiting.items p.stop c.in_ok-fill.ensures.full none)
-    (nil_from_length p.burst.ops none) (no_items p.slots.len p.slots.items c.is_empty.result p.slots.ok.0 c.is_empty.ensures c.if-is_empty.true)
+    (nil_from_length p.burst.ops none) (no_items p.slots.len p.slots.items c.is_empty.result p.slots.ok.0 c.is_empty.ensures c.if-is_empty.true))
 
 pub returns-then-is_empty-clause-ended : goal.returns-then-is_empty-clause-ended
 returns-then-is_empty-clause-ended g c told is =
-    let u = c.in_ok-fill.ensures.underway c.requires.underway.0 _ c.requires.underway.1 refl refl c.requires.underway.2 in
+    let u = c.in_ok-fill.ensures.underway c.requires.underway.0 _ c.requires.underway.2 refl refl c.requires.underway.4 in
     let same : c.in-Some.stop ≡ ReadStop.End = cc in
     (u.stopped c.in-Some.stop c.in-Some.is).1 told same
 
 pub returns-then-is_empty-clause-read_cause : goal.returns-then-is_empty-clause-read_cause
 returns-then-is_empty-clause-read_cause g c is =
-    let u = c.in_ok-fill.ensures.underway c.requires.underway.0 _ c.requires.underway.1 refl refl c.requires.underway.2 in
+    let u = c.in_ok-fill.ensures.underway c.requires.underway.0 _ c.requires.underway.2 refl refl c.requires.underway.4 in
     let same : c.in-Some.stop ≡ ReadStop.Fault = cc in
     absurd (no_fault g.S.Source.tells (g.S.Source.left c.fill.new.src) c.in-Some.stop (u.stopped c.in-Some.stop c.in-Some.is) same)
 
 pub turn-accepted-requires-clause-fresh : goal.turn-accepted-requires-clause-fresh
-turn-accepted-requires-clause-fresh g c = (c.in_ok-fill.ensures.underway c.requires.underway.0 _ c.requires.underway.1 refl refl c.requires.underway.2).fresh
+turn-accepted-requires-clause-fresh g c = (c.in_ok-fill.ensures.underway c.requires.underway.0 _ c.requires.underway.2 refl refl c.requires.underway.4).fresh
 
 pub turn-accepted-requires-clause-empty : goal.turn-accepted-requires-clause-empty
-turn-accepted-requires-clause-empty g c = (c.in_ok-fill.ensures.underway c.requires.underway.0 _ c.requires.underway.1 refl refl c.requires.underway.2).back
+turn-accepted-requires-clause-empty g c = (c.in_ok-fill.ensures.underway c.requires.underway.0 _ c.requires.underway.2 refl refl c.requires.underway.4).back
 
 pub turn-accepted-requires-clause-size : goal.turn-accepted-requires-clause-size
-turn-accepted-requires-clause-size g c = (c.in_ok-fill.ensures.underway c.requires.underway.0 _ c.requires.underway.1 refl refl c.requires.underway.2).sizes.1
+turn-accepted-requires-clause-size g c = let u = c.in_ok-fill.ensures.underway c.requires.underway.0 _ c.requires.underway.2 refl refl c.requires.underway.4 in omega (arith, u.sizes.1, u.sizes.2)
 
 pub turn-accepted-requires-clause-few : goal.turn-accepted-requires-clause-few
 turn-accepted-requires-clause-few g c =
-    let u = c.in_ok-fill.ensures.underway c.requires.underway.0 _ c.requires.underway.1 refl refl c.requires.underway.2 in
+    let u = c.in_ok-fill.ensures.underway c.requires.underway.0 _ c.requires.underway.2 refl refl c.requires.underway.4 in
     omega (arith, few_held c.args.plan.now c.requires.underway.0 g.S.Source.tells g.K.Sink.tells c.fill.new.passage _ u)
 
 pub turn-accepted-requires-clause-between : goal.turn-accepted-requires-clause-between
 turn-accepted-requires-clause-between g c =
-    let u = c.in_ok-fill.ensures.underway c.requires.underway.0 _ c.requires.underway.1 refl refl c.requires.underway.2 in
+    let u = c.in_ok-fill.ensures.underway c.requires.underway.0 _ c.requires.underway.2 refl refl c.requires.underway.4 in
     (u.used, u.between)
 
 pub write_ready-requires : goal.write_ready-requires
 write_ready-requires g c =
-    let u = c.in_ok-fill.ensures.underway c.requires.underway.0 _ c.requires.underway.1 refl refl c.requires.underway.2 in
+    let u = c.in_ok-fill.ensures.underway c.requires.underway.0 _ c.requires.underway.2 refl refl c.requires.underway.4 in
     (c.args.plan.now, u.used, _, c.turn-accepted.ensures.between u.used u.between, omega (arith, u.count, u.range), u.counts)
 
 pub returns-in_err-write_ready-clause-ends : goal.returns-in_err-write_ready-clause-ends
-returns-in_err-write_ready-clause-ends g c b big u0 =
+returns-in_err-write_ready-clause-ends g c b past first big at ran u0 =
     let p = c.fill.new.passage in
     let n = c.turn-accepted.result.0 in
     let plan = c.args.plan.now in
     let u = c.in_ok-fill.ensures.underway b _ big refl refl u0 in
     let between = c.turn-accepted.ensures.between u.used u.between in
     let counts = c.write_ready.ensures.counts plan u.used _ between u.counts in
+    let now = c.turn-accepted.ensures.calls first past ran in
+    let o0 : Outside = record { left = g.S.Source.left c.fill.new.src; written = g.K.Sink.written c.fill.new.out; held = g.D.Driver.held c.args.dev.now; enqueued = (g.D.Driver.stats c.args.dev.now).enqueued; log = g.D.Driver.log c.args.dev.now; past = past } in
     if_err_at c.from_residual-in_err-write_ready.result flow_end.WriteFault _ c.from_residual-in_err-write_ready.ensures.1
-    (ends_cut plan b g.S.Source.tells g.K.Sink.tells
-    (record { left = g.S.Source.left c.fill.new.src; written = g.K.Sink.written c.write_ready.new.out; held = g.D.Driver.held c.turn-accepted.new.dev; enqueued = (g.D.Driver.stats c.turn-accepted.new.dev).enqueued; log = g.D.Driver.log c.turn-accepted.new.dev })
+    (now.0, now.1, ends_cut plan b g.S.Source.tells g.K.Sink.tells
+    (record { left = g.S.Source.left c.fill.new.src; written = g.K.Sink.written c.write_ready.new.out; held = g.D.Driver.held c.turn-accepted.new.dev; enqueued = (g.D.Driver.stats c.turn-accepted.new.dev).enqueued; log = g.D.Driver.log c.turn-accepted.new.dev; past = now.0 })
     c.write_ready.new.counts u.used (u.taken ++ front_log n p.burst) (map log_entry c.turn-accepted.new.burst.ops) c.write_ready.new.first
     (λ told. begun_first b.big b.bytes u.used (map view p.waiting.items) p.place (g.S.Source.left c.fill.new.src) p.stop (u.reads told))
     (queued_on u.taken (entries_from plan 0 u.used) n p.burst c.turn-accepted.new.burst c.turn-accepted.ensures.rest u.queued)
     (device_on b u.taken n p.burst _ _ _ _ c.turn-accepted.ensures.within u.device c.turn-accepted.ensures.enqueued c.turn-accepted.ensures.log)
+    (took_on plan b g.S.Source.tells g.K.Sink.tells c.args.passage.now p o0 u at c.in_ok-fill.ensures.filled n now.0 c.turn-accepted.ensures.within now.3)
+    (flows_behind plan b g.S.Source.tells g.K.Sink.tells p o0 u now.0 (offers_on plan b g.S.Source.tells g.K.Sink.tells c.args.passage.now p o0 u at c.in_ok-fill.ensures.filled n now.0 c.turn-accepted.ensures.within now.3))
     counts.0 counts.1
     (λ told. cut_by b.big c.args.header.now.big big (answered_from plan 0 u.used) p.first c.write_ready.new.first b.base (g.K.Sink.written c.fill.new.out) (g.K.Sink.written c.write_ready.new.out)
     (u.writes told) (c.in_err-write_ready.ensures.fault told plan u.used _ between b.base)))
 
 pub overflow_add-result : goal.overflow_add-result
 overflow_add-result g c =
-    let u = c.in_ok-fill.ensures.underway c.requires.underway.0 _ c.requires.underway.1 refl refl c.requires.underway.2 in
+    let u = c.in_ok-fill.ensures.underway c.requires.underway.0 _ c.requires.underway.2 refl refl c.requires.underway.4 in
     omega (arith, few_held c.args.plan.now c.requires.underway.0 g.S.Source.tells g.K.Sink.tells c.fill.new.passage _ u, c.turn-accepted.ensures.within, c.turn-accepted.ensures.count)
 
 pub returns-clause-underway : goal.returns-clause-underway
-returns-clause-underway g c b big u0 =
+returns-clause-underway g c b past first big at ran u0 =
     let p = c.fill.new.passage in
     let n = c.turn-accepted.result.0 in
     let plan = c.args.plan.now in
     let u = c.in_ok-fill.ensures.underway b _ big refl refl u0 in
     let between = c.turn-accepted.ensures.between u.used u.between in
     let counts = c.write_ready.ensures.counts plan u.used _ between u.counts in
-    record {
+    let now = c.turn-accepted.ensures.calls first past ran in
+    let o0 : Outside = record { left = g.S.Source.left c.fill.new.src; written = g.K.Sink.written c.fill.new.out; held = g.D.Driver.held c.args.dev.now; enqueued = (g.D.Driver.stats c.args.dev.now).enqueued; log = g.D.Driver.log c.args.dev.now; past = past } in
+    let filled = c.in_ok-fill.ensures.filled in
+    (now.0, at_rest plan b g.S.Source.tells g.K.Sink.tells c.args.passage.now p o0 u at filled n c.turn-accepted.new.burst now.0 c.turn-accepted.ensures.rest now.2 now.3, now.1, record {
       used = u.used;
       taken = u.taken ++ front_log n p.burst;
       reads = u.reads;
@@ -122,12 +130,14 @@ returns-clause-underway g c b big u0 =
       range = u.range;
       place = u.place;
       back = ap (λ (x : Burst (Op Card)). x.ops) c.turn-accepted.ensures.emptied ∙ u.back;
-      sizes = (subst (λ (x : Burst (Op Card)). 0 < x.cap) (sym c.turn-accepted.ensures.rest) u.sizes.0, subst (λ (x : Burst (Op Card)). 0 < x.cap) (sym c.turn-accepted.ensures.emptied) u.sizes.1);
-    }
+      sizes = (ap (λ (x : Burst (Op Card)). x.cap) c.turn-accepted.ensures.rest ∙ u.sizes.0, ap (λ (x : Burst (Op Card)). x.cap) c.turn-accepted.ensures.emptied ∙ u.sizes.1, u.sizes.2);
+      took = took_on plan b g.S.Source.tells g.K.Sink.tells c.args.passage.now p o0 u at filled n now.0 c.turn-accepted.ensures.within now.3;
+      offers = offers_on plan b g.S.Source.tells g.K.Sink.tells c.args.passage.now p o0 u at filled n now.0 c.turn-accepted.ensures.within now.3;
+    })
 
 pub returns-clause-moved : goal.returns-clause-moved
 returns-clause-moved g c =
-    let u = c.in_ok-fill.ensures.underway c.requires.underway.0 _ c.requires.underway.1 refl refl c.requires.underway.2 in
+    let u = c.in_ok-fill.ensures.underway c.requires.underway.0 _ c.requires.underway.2 refl refl c.requires.underway.4 in
     moved_by c.turn-accepted.result.0 c.turn-accepted.result.1 (length (g.D.Driver.held c.args.dev.now)) (length (g.D.Driver.held c.turn-accepted.new.dev)) (length u.taken) (length c.fill.new.passage.burst.ops)
     (g.D.Driver.stats c.args.dev.now).enqueued (g.D.Driver.stats c.turn-accepted.new.dev).enqueued c.turn-accepted.ensures.within
     (few_taken c.args.plan.now c.requires.underway.0 g.S.Source.tells g.K.Sink.tells c.fill.new.passage _ u) c.turn-accepted.ensures.count u.device.enqueued_is c.turn-accepted.ensures.enqueued
@@ -135,7 +145,7 @@ returns-clause-moved g c =
 pub returns-clause-cause : goal.returns-clause-cause
 returns-clause-cause g c none =
     let p = c.fill.new.passage in
-    let u = c.in_ok-fill.ensures.underway c.requires.underway.0 _ c.requires.underway.1 refl refl c.requires.underway.2 in
+    let u = c.in_ok-fill.ensures.underway c.requires.underway.0 _ c.requires.underway.2 refl refl c.requires.underway.4 in
     c.turn-accepted.ensures.cause none (elim c.else-len-eq0.branch [
       | else-len-eq0-via-then-len-eq0+else-is_empty w ↦ some_moves entry_of c.args.plan.now u.used p.first p.slots.items (g.D.Driver.held c.args.dev.now) p.burst.ops u.front
           (some_items p.slots.len p.slots.items w.is_empty.result p.slots.ok.0 w.is_empty.ensures w.if-is_empty.false) u.between

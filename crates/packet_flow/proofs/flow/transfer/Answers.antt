@@ -1,4 +1,8 @@
-use Rattle.std.proofs.Common.{Err, length, refl, ap, ◌∙◌, arith}
+use Rattle.crypto_op.specs.declared.spec.Card.{Card}
+use Rattle.crypto_op.specs.declared.op.Op.{Op}
+use Rattle.crypto_op.specs.Burst.{Burst}
+use Rattle.dev_core.specs.Burst.{log_entry}
+use Rattle.std.proofs.Common.{Err, [], map, length, refl, ap, ◌∙◌, arith}
 use Rattle.dev_core.specs.declared.stats.Stats.{Stats}
 use Rattle.packet_flow.specs.declared.flow.FlowEnd.TheVariants as flow_end
 use Rattle.packet_flow.specs.Passage.{Before}
@@ -8,15 +12,15 @@ use Rattle.packet_flow.proofs.flow.transfer.Goals as goal
 
 pub returns-in_default-clause-ends : goal.returns-in_default-clause-ends
 returns-in_default-clause-ends g c =
-    ends_unbegun c.args.plan.now (record { big = c.args.header.now.big; bytes = g.S.Source.left c.args.src.now; base = g.K.Sink.written c.args.out.now; log = g.D.Driver.log c.args.dev.now })
+    ([], refl, ends_unbegun c.args.plan.now (record { big = c.args.header.now.big; bytes = g.S.Source.left c.args.src.now; base = g.K.Sink.written c.args.out.now; log = g.D.Driver.log c.args.dev.now; size = c.args.size })
     g.S.Source.tells g.K.Sink.tells
-    (record { left = g.S.Source.left c.args.src.now; written = g.K.Sink.written c.args.out.now; held = g.D.Driver.held c.args.dev.now; enqueued = (g.D.Driver.stats c.args.dev.now).enqueued; log = g.D.Driver.log c.args.dev.now })
-    c.new-in_default.result (record { enqueued_is = omega (arith, ap (λ (s : Stats). s.enqueued) c.requires.stats); log_is = c.requires.log }) refl c.new-in_default.ensures
+    (record { left = g.S.Source.left c.args.src.now; written = g.K.Sink.written c.args.out.now; held = g.D.Driver.held c.args.dev.now; enqueued = (g.D.Driver.stats c.args.dev.now).enqueued; log = g.D.Driver.log c.args.dev.now; past = [] })
+    c.new-in_default.result refl (record { enqueued_is = omega (arith, ap (λ (s : Stats). s.enqueued) c.requires.stats); log_is = c.requires.log }) refl c.new-in_default.ensures)
 
 pub loop-moved-init : goal.loop-moved-init
 loop-moved-init g c = record {
-  underway = new_underway c.args.plan.now _ g.S.Source.tells g.K.Sink.tells c.args.size c.in-Ok.passage _ c.requires.size.0 c.in-Ok.ensures
-      (record { enqueued_is = omega (arith, ap (λ (s : Stats). s.enqueued) c.requires.stats); log_is = c.requires.log }) refl refl c.requires.idle;
+  underway = ([], record { drained = tt; rest = ap (λ (x : Burst (Op Card)). map log_entry x.ops) c.in-Ok.ensures.burst }, refl, new_underway c.args.plan.now _ g.S.Source.tells g.K.Sink.tells c.args.size c.in-Ok.passage _ c.requires.size.0 refl refl c.in-Ok.ensures
+      (record { enqueued_is = omega (arith, ap (λ (s : Stats). s.enqueued) c.requires.stats); log_is = c.requires.log }) refl refl c.requires.idle);
   sessions = refl;
   follows = g.met.D.Driver.follows_itself _;
   later = omega arith;
@@ -33,12 +37,13 @@ pub step-requires-clause-works : goal.step-requires-clause-works
 step-requires-clause-works g c = c.requires.works c.loop-moved.dev c.loop-moved.invariant.follows
 
 pub step-requires-clause-underway : goal.step-requires-clause-underway
-step-requires-clause-underway g c = (_, refl, c.loop-moved.invariant.underway)
+step-requires-clause-underway g c = let u = c.loop-moved.invariant.underway in (_, u.0, refl, u.1, u.3)
 
 pub returns-in-Err-clause-ends : goal.returns-in-Err-clause-ends
 returns-in-Err-clause-ends g c =
-    c.in-Err.ensures.ends (record { big = c.args.header.now.big; bytes = g.S.Source.left c.args.src.now; base = g.K.Sink.written c.args.out.now; log = g.D.Driver.log c.args.dev.now })
-    refl c.loop-moved.invariant.underway
+    let u = c.loop-moved.invariant.underway in
+    c.in-Err.ensures.ends (record { big = c.args.header.now.big; bytes = g.S.Source.left c.args.src.now; base = g.K.Sink.written c.args.out.now; log = g.D.Driver.log c.args.dev.now; size = c.args.size })
+    u.0 c.args.dev.now refl u.1 u.2 u.3
 
 pub returns-in-Err-clause-stalls : goal.returns-in-Err-clause-stalls
 returns-in-Err-clause-stalls g c = omega (arith, c.loop-moved.invariant.later, c.step.ensures.stalls)
@@ -63,25 +68,27 @@ returns-in-Err-clause-write_cause g c is = omega (arith, c.loop-moved.invariant.
 
 pub overflow_add-stalled : goal.overflow_add-stalled
 overflow_add-stalled g c =
-    let few = enqueued_few c.args.plan.now _ g.S.Source.tells g.K.Sink.tells c.loop-moved.passage _ c.loop-moved.invariant.underway in
+    let few = enqueued_few c.args.plan.now _ g.S.Source.tells g.K.Sink.tells c.loop-moved.passage _ c.loop-moved.invariant.underway.3 in
     omega (arith, few, c.loop-moved.invariant.patience, counted_few c.in-Ok-step.moved c.from-stalled.result c.from-stalled.ensures)
 
 pub overflow_add-stats : goal.overflow_add-stats
 overflow_add-stats g c =
-    let few = enqueued_few c.args.plan.now _ g.S.Source.tells g.K.Sink.tells c.step.new.passage _ (c.in-Ok-step.ensures.underway _ refl c.loop-moved.invariant.underway) in
+    let few = enqueued_few c.args.plan.now _ g.S.Source.tells g.K.Sink.tells c.step.new.passage _ (c.in-Ok-step.ensures.underway _ c.loop-moved.invariant.underway.0 c.args.dev.now refl c.loop-moved.invariant.underway.1 c.loop-moved.invariant.underway.2 c.loop-moved.invariant.underway.3).3 in
     omega (arith, few, ap (λ (s : Stats). s.enqueued) c.stats.ensures)
 
 pub overflow_mul-stats : goal.overflow_mul-stats
 overflow_mul-stats g c =
-    let few = enqueued_few c.args.plan.now _ g.S.Source.tells g.K.Sink.tells c.step.new.passage _ (c.in-Ok-step.ensures.underway _ refl c.loop-moved.invariant.underway) in
+    let few = enqueued_few c.args.plan.now _ g.S.Source.tells g.K.Sink.tells c.step.new.passage _ (c.in-Ok-step.ensures.underway _ c.loop-moved.invariant.underway.0 c.args.dev.now refl c.loop-moved.invariant.underway.1 c.loop-moved.invariant.underway.2 c.loop-moved.invariant.underway.3).3 in
     omega (arith, few, ap (λ (s : Stats). s.enqueued) c.stats.ensures)
 
 pub returns-then-stalled-stats-clause-ends : goal.returns-then-stalled-stats-clause-ends
 returns-then-stalled-stats-clause-ends g c =
-    let b : Before = record { big = c.args.header.now.big; bytes = g.S.Source.left c.args.src.now; base = g.K.Sink.written c.args.out.now; log = g.D.Driver.log c.args.dev.now } in
-    ends_early c.args.plan.now b g.S.Source.tells g.K.Sink.tells c.step.new.passage
-    (record { left = g.S.Source.left c.step.new.src; written = g.K.Sink.written c.step.new.out; held = g.D.Driver.held c.step.new.dev; enqueued = (g.D.Driver.stats c.step.new.dev).enqueued; log = g.D.Driver.log c.step.new.dev })
-    flow_end.Stalled c.step.new.passage.counts (λ w. w) (λ is. cc) (c.in-Ok-step.ensures.underway b refl c.loop-moved.invariant.underway) refl
+    let b : Before = record { big = c.args.header.now.big; bytes = g.S.Source.left c.args.src.now; base = g.K.Sink.written c.args.out.now; log = g.D.Driver.log c.args.dev.now; size = c.args.size } in
+    let u = c.loop-moved.invariant.underway in
+    let now = c.in-Ok-step.ensures.underway b u.0 c.args.dev.now refl u.1 u.2 u.3 in
+    (now.0, now.2, ends_early c.args.plan.now b g.S.Source.tells g.K.Sink.tells c.step.new.passage
+    (record { left = g.S.Source.left c.step.new.src; written = g.K.Sink.written c.step.new.out; held = g.D.Driver.held c.step.new.dev; enqueued = (g.D.Driver.stats c.step.new.dev).enqueued; log = g.D.Driver.log c.step.new.dev; past = now.0 })
+    flow_end.Stalled c.step.new.passage.counts (λ w. w) (λ is. cc) now.3 refl)
 
 pub returns-then-stalled-stats-clause-stalled : goal.returns-then-stalled-stats-clause-stalled
 returns-then-stalled-stats-clause-stalled g c is =
@@ -110,8 +117,8 @@ returns-then-stalled-stats-clause-write_later g c = omega (arith, c.loop-moved.i
 
 pub loop-moved-smaller : goal.loop-moved-smaller
 loop-moved-smaller g c =
-    let few = enqueued_few c.args.plan.now _ g.S.Source.tells g.K.Sink.tells c.loop-moved.passage _ c.loop-moved.invariant.underway in
-    let few' = enqueued_few c.args.plan.now _ g.S.Source.tells g.K.Sink.tells c.step.new.passage _ (c.in-Ok-step.ensures.underway _ refl c.loop-moved.invariant.underway) in
+    let few = enqueued_few c.args.plan.now _ g.S.Source.tells g.K.Sink.tells c.loop-moved.passage _ c.loop-moved.invariant.underway.3 in
+    let few' = enqueued_few c.args.plan.now _ g.S.Source.tells g.K.Sink.tells c.step.new.passage _ (c.in-Ok-step.ensures.underway _ c.loop-moved.invariant.underway.0 c.args.dev.now refl c.loop-moved.invariant.underway.1 c.loop-moved.invariant.underway.2 c.loop-moved.invariant.underway.3).3 in
     fewer_left (length (g.D.Driver.held c.loop-moved.dev)) (length (g.D.Driver.held c.step.new.dev)) (g.D.Driver.stats c.loop-moved.dev).enqueued (g.D.Driver.stats c.step.new.dev).enqueued
     c.loop-moved.stalled c.in-Ok-step.moved c.from-stalled.result c.from-stalled.ensures few few' c.in-Ok-step.ensures.moved
     (omega (arith, c.if-stalled-stats.false, ap (λ (s : Stats). s.enqueued) c.stats.ensures))
@@ -120,7 +127,7 @@ pub loop-moved-preserved : goal.loop-moved-preserved
 loop-moved-preserved g c =
     let inv = c.loop-moved.invariant in
     record {
-      underway = c.in-Ok-step.ensures.underway _ refl inv.underway;
+      underway = c.in-Ok-step.ensures.underway _ inv.underway.0 c.args.dev.now refl inv.underway.1 inv.underway.2 inv.underway.3;
       sessions = c.step.ensures.sessions ∙ inv.sessions;
       follows = g.met.D.Driver.follows_on _ _ _ inv.follows c.step.ensures.follows;
       later = omega (arith, inv.later, c.step.ensures.stalls);

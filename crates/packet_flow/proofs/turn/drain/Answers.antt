@@ -4,6 +4,7 @@ use Rattle.crypto_op.specs.declared.op.Op.{Op}
 use Rattle.crypto_op.specs.Burst.{Burst}
 use Rattle.crypto_op.specs.Op.{entry_of}
 use Rattle.dev_core.specs.declared.stats.Stats.{Stats}
+use Rattle.packet_flow.proofs.Calling.{last_more, one_more}
 use Rattle.packet_flow.proofs.Bags.{all_back, came_back, fewer_held, same_back}
 use Rattle.packet_flow.proofs.turn.drain.Goals as goal
 
@@ -65,8 +66,15 @@ loop-first-preserved g c =
       sessions = c.dequeue_burst-n.ensures.sessions ∙ inv.sessions;
       enqueued = ap (λ (s : Stats). s.enqueued) c.dequeue_burst-n.ensures.stats ∙ inv.enqueued;
       log = c.dequeue_burst-n.ensures.log ∙ inv.log;
+      calls = λ first past ran. one_more g.D.Driver.does first past c.loop-first.dev c.dequeue_burst-n.new.self _ c.dequeue_burst-n.result (inv.calls first past ran) c.dequeue_burst-n.ensures.does;
       follows = g.met.D.Driver.follows_on _ _ _ inv.follows c.dequeue_burst-n.ensures.follows;
       between = λ used rest b. c.settle_all.ensures.between used (g.D.Driver.held c.dequeue_burst-n.new.self ++ rest)
           (came_back c.args.plan.now used c.args.first c.loop-first.slots.items (map entry_of c.dequeue_burst-n.new.out.ops) (g.D.Driver.held c.loop-first.dev) (g.D.Driver.held c.dequeue_burst-n.new.self) rest h
           (inv.between used rest b));
     }
+
+pub returns-then-n-size-clause-calls : goal.returns-then-n-size-clause-calls
+returns-then-n-size-clause-calls g c first past ran =
+    let none : c.loop-first.back.ops ≡ [] = ap (λ (x : Burst (Op Card)). x.ops) c.loop-first.invariant.back ∙ c.requires.empty in
+    last_more g.D.Driver.does first past c.loop-first.dev c.dequeue_burst-n.new.self _ c.dequeue_burst-n.result (c.loop-first.invariant.calls first past ran)
+    (omega (arith, c.if-n-size.true, c.room-size.ensures, c.loop-first.invariant.size, ap length none, ap length c.requires.empty, ap (λ (x : Burst (Op Card)). x.cap) c.loop-first.invariant.back)) c.dequeue_burst-n.ensures.does

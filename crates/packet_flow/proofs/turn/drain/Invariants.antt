@@ -2,6 +2,8 @@ use Rattle.std.proofs.Common.{◌≡◌, ◌++◌, ◌+◌, ◌≤◌, List, len
 use Rattle.capture_io.specs.Capture.{Rec}
 use Rattle.crypto_op.specs.declared.spec.Card.{Card}
 use Rattle.crypto_op.specs.Op.{Entry}
+use Rattle.dev_core.specs.Calls.{Call, Ran}
+use Rattle.packet_flow.specs.Offers.{OnlyAsked}
 use Rattle.packet_flow.specs.Slots.{IsBetween}
 use Rattle.packet_flow.proofs.turn.drain.Given as goal
 
@@ -14,6 +16,7 @@ invariant-loop-first g l = record {
   sessions : g.D.Driver.sessions l.dev ≡ g.D.Driver.sessions l.fn.dev;
   enqueued : (g.D.Driver.stats l.dev).enqueued ≡ (g.D.Driver.stats l.fn.dev).enqueued;
   log : g.D.Driver.log l.dev ≡ g.D.Driver.log l.fn.dev;
+  calls : (first : _) (past : List Call) → Ran g.D.Driver.does first past l.fn.dev → (now : List Call) × Ran g.D.Driver.does first now l.dev × OnlyAsked past now;
   follows : g.D.Driver.follows l.fn.dev l.dev;
   between : (used : List Rec) (rest : List (Entry Card)) → IsBetween l.plan used l.first l.fn.slots.items (g.D.Driver.held l.fn.dev ++ rest)
       → IsBetween l.plan used l.first l.slots.items (g.D.Driver.held l.dev ++ rest);

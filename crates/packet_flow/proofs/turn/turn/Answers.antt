@@ -1,4 +1,8 @@
-use Rattle.std.proofs.Common.{◌≡◌, ◌++◌, List, length, map, take, drop, ap, sym, subst, ◌∙◌, arith, length-take}
+use Rattle.std.proofs.lemmas.List.{take_all}
+use Rattle.dev_core.specs.declared.driver.LogEntry.{LogEntry}
+use Rattle.dev_core.specs.Calls.{Offers}
+use Rattle.dev_core.specs.Burst.{log_entry}
+use Rattle.std.proofs.Common.{◌≡◌, ◌∷◌, ◌++◌, List, length, map, take, drop, ap, sym, subst, ◌∙◌, arith, length-take}
 use Rattle.std.proofs.lemmas.List.{length-map}
 use Rattle.crypto_op.specs.declared.spec.Card.{Card}
 use Rattle.crypto_op.specs.declared.op.Op.{Op}
@@ -54,3 +58,11 @@ returns-clause-cause g c none some =
     (λ lt. let told = c.requires.works ls (omega (arith, count, lt)) in
     (told.0, c.enqueue_burst-accepted.ensures.cause told.0 told.1, told.2))
     c.drain-returned.ensures.cause
+
+pub returns-clause-calls : goal.returns-clause-calls
+returns-clause-calls g c first past ran =
+    let ops = c.args.burst.now.ops in
+    let e = c.enqueue_burst-accepted.ensures in
+    let whole : map log_entry (take c.len.result ops) ≡ map log_entry ops = ap (map log_entry) (take_all c.len.result ops (omega (arith, c.len.ensures))) in
+    c.drain-returned.ensures.calls first (Offers (map log_entry ops) c.enqueue_burst-accepted.result ∷ past)
+    (c.args.dev.now, ran, subst (λ (l : List LogEntry). g.D.Driver.does c.args.dev.now (Offers l c.enqueue_burst-accepted.result) c.enqueue_burst-accepted.new.self) whole e.does)

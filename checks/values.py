@@ -50,6 +50,16 @@ def tags(aesgcm):
             expect(name, f"{total:032x}", f"tags under {size} bytes, data of {length}")
 
 
+def blocks(cipher, aes, ecb):
+    """Block i is sixteen bytes of 17 times i."""
+    name = "aes_core/src/tests.rt"
+    for size, numbers in [(16, range(16)), (24, range(1, 5)), (32, range(1, 5))]:
+        stream = cipher(aes(bytes(range(size))), ecb()).encryptor()
+        made = [stream.update(bytes([17 * i] * 16)) for i in range(16)]
+        for i in numbers:
+            expect(name, made[i].hex(), f"block {i} under {size} bytes")
+
+
 def timed(aesgcm, cipher, aes, ctr):
     """What the two programs print for one mebibyte."""
     key = bytes([7] * 16)
@@ -75,10 +85,11 @@ try:
     from cryptography.hazmat.primitives.ciphers import Cipher
     from cryptography.hazmat.primitives.ciphers.aead import AESGCM
     from cryptography.hazmat.primitives.ciphers.algorithms import AES
-    from cryptography.hazmat.primitives.ciphers.modes import CTR
+    from cryptography.hazmat.primitives.ciphers.modes import CTR, ECB
 except ImportError:
     skipped = True
 else:
+    blocks(Cipher, AES, ECB)
     tags(AESGCM)
     timed(AESGCM, Cipher, AES, CTR)
 for line in missing:

@@ -64,3 +64,26 @@ fn a_burst_gives_operations_in_their_order(rt: HostRuntime) -> Result<(), Fail> 
     assert!(rt; burst.pop().is_none());
     Ok(())
 }
+
+#[test]
+fn the_largest_burst_and_the_longest_data_find_memory(rt: HostRuntime) -> Result<(), Fail> {
+    let alloc = rt.alloc();
+    let burst: OpBurst<Card> = OpBurst::new(alloc, 4096)?;
+    assert_eq!(rt; (burst.len(), burst.room()), (0, 4096));
+    let bytes = [0xa5; 255];
+    assert_eq!(rt; Aad::copy(alloc, &bytes)?.bytes(), bytes.as_slice());
+    Ok(())
+}
+
+fn sent<T: Send>(value: T) -> T {
+    value
+}
+
+#[test]
+fn operations_and_bursts_can_be_sent(rt: HostRuntime) -> Result<(), Fail> {
+    let alloc = rt.alloc();
+    assert_eq!(rt; sent(operation(alloc, 5, 3)?).data_len(), 2);
+    let burst: OpBurst<Card> = sent(OpBurst::new(alloc, 1)?);
+    assert_eq!(rt; burst.room(), 1);
+    Ok(())
+}

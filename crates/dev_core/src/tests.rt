@@ -33,3 +33,26 @@ fn a_log_begins_empty(rt: HostRuntime) -> Result<(), Fail> {
     assert_eq!(rt; (*device.inner(), device.into_inner()), ('d', 'd'));
     Ok(())
 }
+
+#[test]
+fn long_lists_and_logs_find_memory(rt: HostRuntime) -> Result<(), Fail> {
+    let alloc = rt.alloc();
+    let list = LimitList::copy(alloc, &[1; 4096])?;
+    let device = StallDriver::new('d', Limits::Listed(list), Limits::Never);
+    let device = LogDriver::new(alloc, device, 100_000)?;
+    assert!(rt; device.log().is_empty());
+    assert_eq!(rt; *device.inner().inner(), 'd');
+    Ok(())
+}
+
+fn sent<T: Send>(value: T) -> T {
+    value
+}
+
+#[test]
+fn devices_over_others_can_be_sent(rt: HostRuntime) -> Result<(), Fail> {
+    let device = StallDriver::new('d', Limits::Never, Limits::Always(1));
+    let device = LogDriver::new(rt.alloc(), sent(device), 1)?;
+    assert_eq!(rt; *sent(device).inner().inner(), 'd');
+    Ok(())
+}

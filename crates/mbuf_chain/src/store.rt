@@ -1,5 +1,5 @@
 //! Where the segments of packets come from.
-ghost use Rattle.std.specs.Prelude.{◌≡◌, IfOk};
+ghost use Rattle.std.specs.Prelude.{◌≡◌, [], replicate, IfOk};
 ghost use Rattle.std.specs.Result.{IsErrOf};
 ghost use Rattle.mbuf_chain.specs.Emptied.{IsEmptied};
 ghost use Rattle.mbuf_chain.specs.declared.store.NoSeg.TheVariants.{Empty};
@@ -44,7 +44,12 @@ impl FreshSegs {
 impl SegStore for FreshSegs {
     ghost endless = { Unit {0} };
 
-    fn take(&mut self) -> Result<Seg, NoSeg> {
+    /// Its buffer is all zeros.
+    fn take(&mut self) -> Result<Seg, NoSeg>
+        ensures emptied { IfOk result IsEmptied }
+        ensures endless { Unit {0} → ¬ (IsErrOf result Empty) }
+        ensures fresh { IfOk result (λ s. s ≡ record { before = []; body = []; after = replicate 2048 0 }) }
+    {
         Seg::new(self.alloc, 0).map_err(|_| NoSeg::OutOfMemory)
     }
 

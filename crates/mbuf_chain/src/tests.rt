@@ -136,6 +136,17 @@ fn a_piece_ends_with_its_segment(rt: HostRuntime) -> Result<(), Fail> {
     Ok(())
 }
 
+fn sent<T: Send>(value: T) -> T {
+    value
+}
+
+#[test]
+fn packets_and_stores_can_be_sent(rt: HostRuntime) -> Result<(), Fail> {
+    assert_eq!(rt; sent(letters(rt.alloc())?).seg_count(), 3);
+    assert!(rt; sent(FreshSegs::new(rt.alloc())).take().is_ok());
+    Ok(())
+}
+
 #[test]
 fn a_fresh_segment_is_empty(rt: HostRuntime) -> Result<(), Fail> {
     let mut store = FreshSegs::new(rt.alloc());

@@ -99,6 +99,7 @@ fn the_first_fault_is_told(rt: HostRuntime) -> Result<(), Fail> {
         (17, 9, 256, Some(MakeRefused::BadKeyLength)),
         (16, 9, 256, Some(MakeRefused::BadDigestLength)),
         (16, 7, 0, Some(MakeRefused::BadDigestLength)),
+        (16, 10, 0, Some(MakeRefused::BadDigestLength)),
         (16, 11, 0, Some(MakeRefused::BadDigestLength)),
         (16, 17, 0, Some(MakeRefused::BadDigestLength)),
         (16, 16, 256, Some(MakeRefused::BadAadLength)),
@@ -134,6 +135,15 @@ fn other_chains_are_refused(rt: HostRuntime) -> Result<(), Fail> {
     }
     let two = [aead(alloc, 16, 16, 0)?, aead(alloc, 16, 16, 0)?];
     assert_eq!(rt; refusal(alloc, &two), Some(MakeRefused::BadChain));
+    let six = [
+        cipher(alloc, encrypt, 16)?,
+        code(alloc, Hash::Sha256, generate, 20, 32)?,
+        cipher(alloc, encrypt, 16)?,
+        code(alloc, Hash::Sha256, generate, 20, 32)?,
+        cipher(alloc, encrypt, 16)?,
+        code(alloc, Hash::Sha256, generate, 20, 32)?,
+    ];
+    assert_eq!(rt; refusal(alloc, &six), Some(MakeRefused::BadChain));
     for (act, dir) in [(generate, encrypt), (generate, decrypt), (verify, encrypt)] {
         let chain = [
             code(alloc, Hash::Sha256, act, 20, 32)?,
@@ -274,5 +284,78 @@ fn tables_are_the_same_by_each_byte(rt: HostRuntime) -> Result<(), Fail> {
     assert!(rt; !same(&table, &table_of(alloc, &[(b"one", 32), (b"twp", 16)])?));
     assert!(rt; !same(&table, &table_of(alloc, &[(b"one", 32), (b"two", 15)])?));
     assert!(rt; !same(&table, &table_of(alloc, &[(b"one", 32), (b"two\0", 16)])?));
+    Ok(())
+}
+
+// A table with one session of this transform.
+fn table_with(alloc: Global, xform: Xform) -> Result<SessionTable, Fail> {
+    let mut table = SessionTable::new(alloc)?;
+    table
+        .add(Session::make(alloc, &[xform])?)
+        .ok()
+        .ok_or("full")?;
+    Ok(table)
+}
+
+fn cipher_table(alloc: Global, alg: CipherAlg, dir: Dir, byte: u8) -> Result<SessionTable, Fail> {
+    let key = KeyBytes::copy(alloc, &[byte; 16])?;
+    table_with(alloc, Xform::Cipher { alg, dir, key })
+}
+
+fn aead_table(
+    alloc: Global,
+    dir: Dir,
+    byte: u8,
+    lengths: (usize, usize),
+) -> Result<SessionTable, Fail> {
+    let (tag_len, aad_len) = lengths;
+    let xform = Xform::Aead {
+        dir,
+        key: KeyBytes::copy(alloc, &[byte; 32])?,
+        tag_len,
+        aad_len,
+    };
+    table_with(alloc, xform)
+}
+
+#[test]
+fn ciphers_and_aeads_are_the_same_by_each_part(rt: HostRuntime) -> Result<(), Fail> {
+    let alloc = rt.alloc();
+    let table = cipher_table(alloc, CipherAlg::AesCbc, Dir::Encrypt, 1)?;
+    for (alg, dir, byte, is_same) in [
+        (CipherAlg::AesCbc, Dir::Encrypt, 1, true),
+        (CipherAlg::AesCtr, Dir::Encrypt, 1, false),
+        (CipherAlg::AesCbc, Dir::Decrypt, 1, false),
+        (CipherAlg::AesCbc, Dir::Encrypt, 2, false),
+    ] {
+        assert_eq!(rt; same(&table, &cipher_table(alloc, alg, dir, byte)?), is_same);
+    }
+    let sealing = aead_table(alloc, Dir::Encrypt, 1, (16, 8))?;
+    assert!(rt; !same(&table, &sealing));
+    for (dir, byte, lengths, is_same) in [
+        (Dir::Encrypt, 1, (16, 8), true),
+        (Dir::Decrypt, 1, (16, 8), false),
+        (Dir::Encrypt, 3, (16, 8), false),
+        (Dir::Encrypt, 1, (12, 8), false),
+        (Dir::Encrypt, 1, (16, 0), false),
+    ] {
+        assert_eq!(rt; same(&sealing, &aead_table(alloc, dir, byte, lengths)?), is_same);
+    }
+    Ok(())
+}
+
+fn sent<T: Send>(value: T) -> T {
+    value
+}
+
+fn shared<T: Sync>(value: &T) -> &T {
+    value
+}
+
+#[test]
+fn a_table_can_be_sent_and_shared(rt: HostRuntime) -> Result<(), Fail> {
+    let table = table_of(rt.alloc(), &[(b"one", 32)])?;
+    assert_eq!(rt; shared(&table).len(), 1);
+    assert_eq!(rt; sent(table).len(), 1);
     Ok(())
 }

@@ -67,6 +67,7 @@ fn a_plain_driver_accepts_nothing_before_it_is_set_up(rt: HostRuntime) -> Result
     for (depth, answer) in [
         (0, Err(SetUpRefused::BadDepth)),
         (4097, Err(SetUpRefused::BadDepth)),
+        (4096, Ok(())),
         (2, Ok(())),
     ] {
         assert_eq!(rt;
@@ -113,5 +114,16 @@ fn a_plain_driver_takes_what_its_depth_allows_and_answers_in_order(
         TEXT,
     );
     assert_eq!(rt; counts(driver.stats()), [2, 2, 1, 1]);
+    Ok(())
+}
+
+fn sent<T: Send>(value: T) -> T {
+    value
+}
+
+#[test]
+fn a_plain_driver_can_be_sent(rt: HostRuntime) -> Result<(), Fail> {
+    let driver: PlainDriver<u8> = sent(PlainDriver::new(rt.alloc())?);
+    assert_eq!(rt; driver.depth(), 0);
     Ok(())
 }

@@ -10,7 +10,7 @@ use crate::decryption::{decrypt_block, decrypt_four_blocks};
 use crate::encryption::{encrypt_block, encrypt_four_blocks, round_key};
 use crate::nibbles::into_basis;
 use crate::tables::SBOX;
-use crypto_model::{BadKeyLength, Substitution, expanded};
+use crypto_model::{BadKeyLength, Substitution, expanded, is_key_length};
 use std::marker::Model;
 use std::simd::prelude::*;
 
@@ -63,7 +63,7 @@ impl Key {
         ensures expanded { IfOk result (λ k. k ≡ bytes.now) }
         ensures refused { IsErr result ↔ ¬ (IsKeyLength (length bytes.now)) }
     {
-        if bytes.len() != 16 && bytes.len() != 24 && bytes.len() != 32 {
+        if !is_key_length(bytes.len()) {
             return Err(BadKeyLength);
         }
         let words = expanded::<ByTable>(bytes);

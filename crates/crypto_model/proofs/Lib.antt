@@ -6,3 +6,4 @@ pub mod Laid
 pub mod BlockBits
 pub mod Vectors
 pub mod Processed
+pub mod Comparing

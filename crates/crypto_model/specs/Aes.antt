@@ -1,5 +1,5 @@
 -- AES (FIPS 197) as functions on lists of bytes. The byte in row r and column c of a state stands at r + 4 * c.
-use Rattle.std.specs.Prelude.{◌≡◌, ◌⊎◌, ℕ, zero, suc, ◌+◌, ◌-◌, ◌*◌, ◌/◌, ◌%◌, List, ◌++◌, length, map, eqb, cond, ◌&&◌, bit_xor, slice_index}
+use Rattle.std.specs.Prelude.{◌≡◌, ◌⊎◌, ℕ, zero, suc, ◌+◌, ◌-◌, ◌*◌, ◌/◌, ◌%◌, List, ◌++◌, length, map, eqb, cond, Bool, ◌&&◌, ◌||◌, nat_eq, bit_xor, slice_index}
 use Rattle.std.specs.List.{range_with_len}
 use Rattle.crypto_model.specs.Field.{product, sub_byte}
 
@@ -37,6 +37,9 @@ power (suc n) = product 2 (power n)
 -- the lengths that a key can have (5)
 abbrev pub IsKeyLength : ℕ → Type 0
 IsKeyLength n = (n ≡ 16) ⊎ (n ≡ 24) ⊎ (n ≡ 32)
+
+abbrev pub is_key_length : ℕ → Bool
+is_key_length n = nat_eq n 16 || (nat_eq n 24 || nat_eq n 32)
 
 -- the number of rounds (5)
 abbrev pub rounds_of : List ℕ → ℕ

@@ -1,18 +1,16 @@
 -- Which lists of transforms a session can be.
 use Rattle.std.specs.Prelude.{ℕ, List, [], ◌∷◌, length, Bool, true, false, ◌&&◌, ◌||◌, nat_eq, nat_le}
+use Rattle.crypto_model.specs.Aes.{is_key_length}
 use Rattle.crypto_model.specs.Hmac.{digest_size}
 use Rattle.crypto_model.specs.Process.{Transform, Cipher, Auth, Aead}
 use Rattle.crypto_model.specs.declared.plain.Dir.TheVariants.{Encrypt, Decrypt}
 use Rattle.crypto_model.specs.declared.plain.Act.TheVariants.{Generate, Verify}
 
-abbrev pub is_aes_length : ℕ → Bool
-is_aes_length n = nat_eq n 16 || (nat_eq n 24 || nat_eq n 32)
-
 -- the key has a length that the algorithm takes
 abbrev pub key_fits : Transform → Bool
-key_fits (Cipher alg dir key) = is_aes_length (length key)
+key_fits (Cipher alg dir key) = is_key_length (length key)
 key_fits (Auth hash act key n) = nat_le 1 (length key) && nat_le (length key) 1024
-key_fits (Aead dir key n aad_len) = is_aes_length (length key)
+key_fits (Aead dir key n aad_len) = is_key_length (length key)
 
 -- the digest has 4 bytes to the code's full length, the tag one of the lengths of SP 800-38D (5.2.1.2)
 abbrev pub digest_fits : Transform → Bool

@@ -1,4 +1,6 @@
 //! The plain types that an operation and a session are made of.
+ghost use Rattle.std.specs.Prelude.{◌≡◌};
+
 use std::alloc::{AllocError, AllocFailed};
 use thiserror::Error;
 
@@ -39,6 +41,32 @@ pub enum Hash {
     Sha256,
     Sha384,
     Sha512,
+}
+
+impl Hash {
+    ghost use Rattle.crypto_model.specs.Hmac.{block_size, digest_size};
+
+    /// The size of its blocks in bytes (FIPS 180-4, 1).
+    pub fn block_size(self) -> usize
+        ensures { result ≡ block_size self }
+    {
+        match self {
+            Hash::Sha224 | Hash::Sha256 => 64,
+            Hash::Sha384 | Hash::Sha512 => 128,
+        }
+    }
+
+    /// The length of its digests in bytes (FIPS 180-4, 1).
+    pub fn digest_size(self) -> usize
+        ensures { result ≡ digest_size self }
+    {
+        match self {
+            Hash::Sha224 => 28,
+            Hash::Sha256 => 32,
+            Hash::Sha384 => 48,
+            Hash::Sha512 => 64,
+        }
+    }
 }
 
 /// AES in a mode of SP 800-38A.

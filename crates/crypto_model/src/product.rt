@@ -5,7 +5,8 @@ ghost use Rattle.crypto_model.specs.Gcm.{bits_128, block_product, times_x};
 // What comes back in front where x ^ 127 is multiplied by x: 1 + x + x ^ 2 + x ^ 7.
 const R: u128 = 0xe1 << 120;
 
-fn times_x(v: u128) -> u128
+/// The product with x (SP 800-38D, 6.3, step 3), of a block as a number.
+pub fn times_x(v: u128) -> u128
     ensures { bits_128 result ≡ times_x (bits_128 v) }
 {
     if v % 2 == 1 { (v >> 1) ^ R } else { v >> 1 }

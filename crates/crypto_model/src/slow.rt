@@ -1,7 +1,7 @@
 //! AES in the standard's own steps: the key schedule, and a cipher that fast code is compared with.
-ghost use Rattle.std.specs.Prelude.{◌++◌, drop, ◌-◌, ◌/◌, take, ◌≡◌, ◌+◌, ◌*◌, ◌<◌, ◌≤◌, ◌↔◌, ℕ, length, slice_index, IfOk, IsErr};
+ghost use Rattle.std.specs.Prelude.{◌++◌, drop, ◌-◌, ◌/◌, take, ◌≡◌, ◌+◌, ◌*◌, ◌<◌, ◌≤◌, ◌↔◌, ℕ, length, slice_index, IsTrue, IfOk, IsErr};
 ghost use Rattle.crypto_model.specs.Field.{inverse, product, sub_byte};
-ghost use Rattle.crypto_model.specs.Aes.{IsKeyLength, add_round_key, cipher, cipher_with, expanded, mix_columns, mixed, next_word, power, rounds, rounds_of, shift_rows, sub_bytes, temp_byte};
+ghost use Rattle.crypto_model.specs.Aes.{IsKeyLength, is_key_length, add_round_key, cipher, cipher_with, expanded, mix_columns, mixed, next_word, power, rounds, rounds_of, shift_rows, sub_bytes, temp_byte};
 
 use thiserror::Error;
 
@@ -9,6 +9,14 @@ use thiserror::Error;
 #[derive(Clone, Copy, Debug, PartialEq, Eq, Error)]
 #[error("the key isn't 16, 24 or 32 bytes long")]
 pub struct BadKeyLength;
+
+/// Whether a key can have this length: 16, 24 or 32 bytes (FIPS 197, 5).
+pub fn is_key_length(len: usize) -> bool
+    ensures says { IsTrue result ↔ IsKeyLength len }
+    ensures value { result ≡ is_key_length len }
+{
+    matches!(len, 16 | 24 | 32)
+}
 
 // The product of two bytes in GF(2^8).
 fn field_product(a: u8, b: u8) -> u8
@@ -200,7 +208,7 @@ pub fn slow_encrypt(key: &[u8], block: [u8; 16]) -> Result<[u8; 16], BadKeyLengt
     ensures ok { IfOk result (λ c. c ≡ cipher key.now block) }
     ensures refused { IsErr result ↔ ¬ (IsKeyLength (length key.now)) }
 {
-    if key.len() != 16 && key.len() != 24 && key.len() != 32 {
+    if !is_key_length(key.len()) {
         return Err(BadKeyLength);
     }
     let rounds = key.len() / 4 + 6;

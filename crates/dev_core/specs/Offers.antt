@@ -32,5 +32,5 @@ IsDrained (Asks most n ∷ past) = n < most
 abbrev pub Flows : ℕ → List LogEntry → List Call → Type 0
 Flows size ops [] = Unit {0}
 Flows size ops (Offers burst n ∷ past) =
-  (burst ≡ next_burst size ops (taken_by past) (rest_of_burst past)) × (0 < length burst) × (n ≤ length burst) × IsDrained past × Flows size ops past
+    (burst ≡ next_burst size ops (taken_by past) (rest_of_burst past)) × (0 < length burst) × (n ≤ length burst) × IsDrained past × Flows size ops past
 Flows size ops (Asks most n ∷ past) = Flows size ops past

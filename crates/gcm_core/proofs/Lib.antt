@@ -5,4 +5,3 @@ pub mod HashedText
 pub mod KeyStreams
 pub mod FedPieces
 pub mod TaggedText
-pub mod Comparing

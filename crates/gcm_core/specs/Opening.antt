@@ -5,10 +5,6 @@ use Rattle.gcm_core.specs.Tagging.{IsTagging}
 use Rattle.gcm_core.specs.declared.opening.GcmOpen.{GcmOpen}
 use Rattle.gcm_core.specs.declared.opening.GcmPlain.{GcmPlain}
 
--- the bytes of ciphertext so far
-abbrev pub absorbed_len : GcmOpen → ℕ
-absorbed_len s = s.tag.text_len
-
 -- the opening s, begun with this key, IV and data that is only authenticated, has taken in this ciphertext
 pub record IsAbsorbed (key iv aad : List ℕ) (s : GcmOpen) (text : List ℕ) : Type 0 where
   pub fresh : IsFed key iv s.stream []

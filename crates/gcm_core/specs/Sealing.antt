@@ -6,10 +6,6 @@ use Rattle.gcm_core.specs.Streaming.{IsFed}
 use Rattle.gcm_core.specs.Tagging.{IsTagging}
 use Rattle.gcm_core.specs.declared.seal.GcmSeal.{GcmSeal}
 
--- the bytes of text so far
-abbrev pub sealed_len : GcmSeal → ℕ
-sealed_len s = s.tag.text_len
-
 -- the sealing s, begun with this key, IV and data that is only authenticated, has taken in this text
 pub record IsSealed (key iv aad : List ℕ) (s : GcmSeal) (text : List ℕ) : Type 0 where
   pub fed : IsFed key iv s.stream text

@@ -1,18 +1,21 @@
 //! Opening, in two walks over the ciphertext.
-ghost use Rattle.std.specs.Prelude.{◌≡◌, ◌<◌, ◌≤◌, ◌+◌, ◌^◌, ◌++◌, [], List, ℕ, length, take, IfOk, is_ok, bytes_eq};
+ghost use Rattle.std.specs.Prelude.{◌≡◌, ◌≤◌, ◌++◌, [], List, ℕ, length, take, IfOk, is_ok, bytes_eq};
 ghost use Rattle.crypto_model.specs.Aes.{cipher};
 ghost use Rattle.crypto_model.specs.Gcm.{gcm_tag, gcm_text};
 
 use crate::key::GcmKey;
 use crate::stream::KeyStream;
 use crate::tag::TagState;
+use crypto_model::is_same;
+use thiserror::Error;
 
 /// The tag isn't the ciphertext's.
-#[derive(Clone, Copy, Debug, PartialEq, Eq)]
+#[derive(Clone, Copy, Debug, PartialEq, Eq, Error)]
+#[error("the tag isn't the ciphertext's")]
 pub struct BadTag;
 
 /// Authenticated decryption (SP 800-38D, 7.2) of a ciphertext that comes in pieces, before its tag is
-/// verified. The ciphertext and the data that is only authenticated have fewer than 2 ^ 32 bytes each.
+/// verified.
 #[derive(Drop)]
 pub struct GcmOpen<'a> {
     stream: KeyStream<'a>,
@@ -20,13 +23,11 @@ pub struct GcmOpen<'a> {
 }
 
 impl<'a> GcmOpen<'a> {
-    ghost use Rattle.gcm_core.specs.Opening.{IsAbsorbed, IsOpened, absorbed_len};
+    ghost use Rattle.gcm_core.specs.Opening.{IsAbsorbed, IsOpened};
 
     /// Begins with the data that is only authenticated.
     pub fn new(key: &'a GcmKey, iv: [u8; 12], aad: &[u8]) -> GcmOpen<'a>
-        requires { length aad.now < 2 ^ 32 }
-        ensures state { IsAbsorbed key.now iv aad.now result [] }
-        ensures count { absorbed_len result ≡ 0 }
+        ensures { IsAbsorbed key.now iv aad.now result [] }
     {
         let (stream, mask) = KeyStream::begin(key.cipher_key(), iv);
         GcmOpen {
@@ -37,10 +38,8 @@ impl<'a> GcmOpen<'a> {
 
     /// Takes in the next piece of the ciphertext.
     pub fn absorb(&mut self, piece: &[u8])
-        requires { absorbed_len self.old + length piece.now < 2 ^ 32 }
-        ensures state { (key iv aad text : List ℕ) → IsAbsorbed key iv aad self.old text
+        ensures { (key iv aad text : List ℕ) → IsAbsorbed key iv aad self.old text
             → IsAbsorbed key iv aad self.new (text ++ piece.now) }
-        ensures count { absorbed_len self.new ≡ absorbed_len self.old + length piece.now }
     {
         self.tag.absorb(piece);
     }
@@ -83,16 +82,4 @@ impl<'a> GcmPlain<'a> {
     {
         self.stream.feed(piece);
     }
-}
-
-// Whether the two are the same. It looks at every byte, so that a difference does not end it early.
-fn is_same(left: &[u8], right: &[u8]) -> bool
-    requires { length left.now ≡ length right.now }
-    ensures { result ≡ bytes_eq left.now right.now }
-{
-    let mut difference = 0;
-    for (x, y) in left.iter().zip(right) {
-        difference |= x ^ y;
-    }
-    difference == 0
 }

@@ -1,5 +1,5 @@
 //! Sealing.
-ghost use Rattle.std.specs.Prelude.{◌≡◌, ◌<◌, ◌+◌, ◌^◌, ◌++◌, [], List, ℕ, length};
+ghost use Rattle.std.specs.Prelude.{◌≡◌, ◌++◌, [], List, ℕ};
 ghost use Rattle.crypto_model.specs.Aes.{cipher};
 ghost use Rattle.crypto_model.specs.Gcm.{gcm_tag, gcm_text};
 
@@ -7,8 +7,8 @@ use crate::key::GcmKey;
 use crate::stream::KeyStream;
 use crate::tag::TagState;
 
-/// Authenticated encryption (SP 800-38D, 7.1) of a text that comes in pieces. The text and the data that
-/// is only authenticated have fewer than 2 ^ 32 bytes each.
+/// Authenticated encryption (SP 800-38D, 7.1) of a text that comes in pieces. The standard gives a text
+/// at most 2 ^ 36 - 32 bytes (5.2.1.1); behind them counter blocks come again.
 #[derive(Drop)]
 pub struct GcmSeal<'a> {
     stream: KeyStream<'a>,
@@ -16,13 +16,11 @@ pub struct GcmSeal<'a> {
 }
 
 impl<'a> GcmSeal<'a> {
-    ghost use Rattle.gcm_core.specs.Sealing.{IsSealed, sealed_len};
+    ghost use Rattle.gcm_core.specs.Sealing.{IsSealed};
 
     /// Begins with the data that is only authenticated. An IV must not come twice with one key.
     pub fn new(key: &'a GcmKey, iv: [u8; 12], aad: &[u8]) -> GcmSeal<'a>
-        requires { length aad.now < 2 ^ 32 }
-        ensures state { IsSealed key.now iv aad.now result [] }
-        ensures count { sealed_len result ≡ 0 }
+        ensures { IsSealed key.now iv aad.now result [] }
     {
         let (stream, mask) = KeyStream::begin(key.cipher_key(), iv);
         GcmSeal {
@@ -33,11 +31,9 @@ impl<'a> GcmSeal<'a> {
 
     /// Encrypts the next piece in place.
     pub fn feed(&mut self, piece: &mut [u8])
-        requires { sealed_len self.old + length piece.old < 2 ^ 32 }
-        ensures state { (key iv aad text : List ℕ) → IsSealed key iv aad self.old text
+        ensures { (key iv aad text : List ℕ) → IsSealed key iv aad self.old text
             → IsSealed key iv aad self.new (text ++ piece.old)
             × (gcm_text (cipher key) iv (text ++ piece.old) ≡ gcm_text (cipher key) iv text ++ piece.new) }
-        ensures count { sealed_len self.new ≡ sealed_len self.old + length piece.old }
     {
         self.stream.feed(piece);
         self.tag.absorb(piece);

@@ -1,16 +1,9 @@
 //! Products with one block by a table. The highest bit of a number is the coefficient of x ^ 0.
 ghost use Rattle.std.specs.Prelude.{◌≡◌, List, ℕ, length};
-ghost use Rattle.crypto_model.specs.Gcm.{bits_128, block_product, times_x};
+ghost use Rattle.crypto_model.specs.Gcm.{bits_128, block_product};
 ghost use Rattle.gcm_core.specs.Tables.{IsRow, IsTable};
 
-// What comes back in front where x ^ 127 is multiplied by x: 1 + x + x ^ 2 + x ^ 7.
-const R: u128 = 0xe1 << 120;
-
-fn times_x(v: u128) -> u128
-    ensures { bits_128 result ≡ times_x (bits_128 v) }
-{
-    if v % 2 == 1 { (v >> 1) ^ R } else { v >> 1 }
-}
+use crypto_model::times_x;
 
 // Entry n is the product with the polynomial whose coefficients are the four bits of n, the highest first.
 fn row(v: u128) -> [u128; 16]

@@ -1,5 +1,5 @@
 //! The tag of a ciphertext that comes in pieces.
-ghost use Rattle.std.specs.Prelude.{◌≡◌, ◌<◌, ◌+◌, ◌^◌, ◌++◌, [], List, ℕ, length};
+ghost use Rattle.std.specs.Prelude.{◌≡◌, ◌++◌, [], List, ℕ};
 ghost use Rattle.crypto_model.specs.Aes.{cipher};
 ghost use Rattle.crypto_model.specs.Gcm.{counter_block, gcm_tag};
 
@@ -14,11 +14,9 @@ pub(crate) struct TagState<'a> {
     hash: Ghash<'a>,
     // What the hash is hidden under.
     mask: [u8; 16],
-    // In bytes.
+    // In bytes, counted modulo 2 ^ 64 as the block of the lengths has them.
     aad_len: u64,
     text_len: u64,
-    ghost aad_small: { aad_len < 2 ^ 32 },
-    ghost text_small: { text_len < 2 ^ 32 },
 }
 
 impl<'a> TagState<'a> {
@@ -26,10 +24,7 @@ impl<'a> TagState<'a> {
 
     /// Begun with the block that the tag is hidden under.
     pub(crate) fn new(key: &'a GcmKey, mask: [u8; 16], aad: &[u8]) -> TagState<'a>
-        requires { length aad.now < 2 ^ 32 }
-        ensures begun { (iv : List ℕ) → mask ≡ cipher key.now (counter_block iv 1)
-            → IsTagging key.now iv aad.now result [] }
-        ensures count { result.text_len ≡ 0 }
+        ensures { (iv : List ℕ) → mask ≡ cipher key.now (counter_block iv 1) → IsTagging key.now iv aad.now result [] }
     {
         let mut hash = Ghash::new(key);
         hash.feed(aad);
@@ -44,13 +39,11 @@ impl<'a> TagState<'a> {
 
     /// Takes in the next piece of the ciphertext.
     pub(crate) fn absorb(&mut self, piece: &[u8])
-        requires { self.old.text_len + length piece.now < 2 ^ 32 }
-        ensures taken { (key iv aad text : List ℕ) → IsTagging key iv aad self.old text
+        ensures { (key iv aad text : List ℕ) → IsTagging key iv aad self.old text
             → IsTagging key iv aad self.new (text ++ piece.now) }
-        ensures count { self.new.text_len ≡ self.old.text_len + length piece.now }
     {
         self.hash.feed(piece);
-        self.text_len += piece.len() as u64;
+        self.text_len = self.text_len.wrapping_add(piece.len() as u64);
     }
 
     pub(crate) fn finish(self) -> [u8; 16]
@@ -64,8 +57,8 @@ impl<'a> TagState<'a> {
             text_len,
         } = self;
         hash.fill();
-        hash.feed(&(aad_len * 8).to_be_bytes());
-        hash.feed(&(text_len * 8).to_be_bytes());
+        hash.feed(&aad_len.wrapping_mul(8).to_be_bytes());
+        hash.feed(&text_len.wrapping_mul(8).to_be_bytes());
         let mut tag = hash.finish();
         xor_block(&mut tag, u8x16::from_array(mask));
         tag

@@ -1,6 +1,4 @@
-ghost use Rattle.std.specs.Prelude.{◌<◌, ◌≤◌, ◌+◌, ◌^◌, length};
-ghost use Rattle.gcm_core.specs.Opening.{absorbed_len};
-ghost use Rattle.gcm_core.specs.Sealing.{sealed_len};
+ghost use Rattle.std.specs.Prelude.{◌<◌, ◌≤◌};
 
 use crate::table::{product, table};
 use crate::{BadTag, GcmKey, GcmOpen, GcmPlain, GcmSeal};
@@ -15,26 +13,18 @@ const IV: [u8; 12] = [
 ];
 
 fn seal_pieces(seal: &mut GcmSeal, text: &mut [u8], size: usize)
-    requires some { 0 < size }
-    requires short { sealed_len seal.old + length text.old < 2 ^ 32 }
+    requires { 0 < size }
 {
-    let mut at = 0;
-    while at < text.len() {
-        let end = at + size.min(text.len() - at);
-        seal.feed(&mut text[at..end]);
-        at = end;
+    for piece in text.chunks_mut(size) {
+        seal.feed(piece);
     }
 }
 
 fn absorb_pieces(opening: &mut GcmOpen, text: &[u8], size: usize)
-    requires some { 0 < size }
-    requires short { absorbed_len opening.old + length text.now < 2 ^ 32 }
+    requires { 0 < size }
 {
-    let mut at = 0;
-    while at < text.len() {
-        let end = at + size.min(text.len() - at);
-        opening.absorb(&text[at..end]);
-        at = end;
+    for piece in text.chunks(size) {
+        opening.absorb(piece);
     }
 }
 
@@ -77,8 +67,7 @@ fn plain_text() -> [u8; 70] {
 
 // The tag of the first bytes of the text, which are sealed and opened in pieces of several sizes.
 fn tag_of(rt: &impl Abort, key: &GcmKey, aad: &[u8], len: usize) -> Result<u128, Fail>
-    requires data { length aad.now < 2 ^ 32 }
-    requires text { len ≤ 70 }
+    requires { len ≤ 70 }
 {
     let mut text = plain_text();
     let mut seal = GcmSeal::new(key, IV, aad);

@@ -5,7 +5,7 @@ ghost use Rattle.crypto_model.specs.Hmac.{digest_size, hmac_of};
 use crate::key::HmacKey;
 use crate::state::State;
 use crate::tag::MacTag;
-use crypto_model::Hash;
+use crypto_model::{Hash, is_same};
 
 const INNER_PAD: u8 = 0x36;
 
@@ -61,16 +61,4 @@ impl Hmac {
         let code = self.finish();
         is_same(tag, &code.bytes[..tag.len()])
     }
-}
-
-// Whether the two are the same. It looks at every byte, so that a difference does not end it early.
-fn is_same(left: &[u8], right: &[u8]) -> bool
-    requires { length left.now ≡ length right.now }
-    ensures { result ≡ bytes_eq left.now right.now }
-{
-    let mut difference = 0;
-    for (x, y) in left.iter().zip(right) {
-        difference |= x ^ y;
-    }
-    difference == 0
 }

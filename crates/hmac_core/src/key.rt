@@ -1,6 +1,6 @@
 //! Keys, as the block that they fill.
 ghost use Rattle.std.specs.Prelude.{◌≡◌, ◌≤◌, ◌<◌, ◌⊎◌, ◌↔◌, ℕ, List, length, take, drop, map, bit_xor, replicate, IfOk, IsErr};
-ghost use Rattle.crypto_model.specs.Hmac.{block_size, digest_size, hash_of};
+ghost use Rattle.crypto_model.specs.Hmac.{digest_size, hash_of};
 
 use crate::state::State;
 use crate::tag::{MacTag, put};
@@ -15,16 +15,6 @@ const MAX_KEY: usize = 1024;
 pub struct HmacKey {
     hash: Hash,
     block: [u8; MAX_BLOCK],
-}
-
-// The size of the function's blocks, in bytes.
-fn size_of_block(hash: Hash) -> usize
-    ensures { result ≡ block_size hash }
-{
-    match hash {
-        Hash::Sha224 | Hash::Sha256 => 64,
-        Hash::Sha384 | Hash::Sha512 => 128,
-    }
 }
 
 fn digest(hash: Hash, message: &[u8]) -> MacTag
@@ -57,7 +47,7 @@ impl HmacKey {
             return Err(BadKeyLength);
         }
         let mut block = [0; MAX_BLOCK];
-        if key.len() <= size_of_block(hash) {
+        if key.len() <= hash.block_size() {
             put(&mut block, key);
         } else {
             let digest = digest(hash, key);
@@ -73,7 +63,7 @@ impl HmacKey {
         let mut block = self.block;
         put_under(&mut block, pad);
         let mut state = State::new(self.hash);
-        state.update(&block[..size_of_block(self.hash)]);
+        state.update(&block[..self.hash.block_size()]);
         state
     }
 }

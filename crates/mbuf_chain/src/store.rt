@@ -50,7 +50,10 @@ impl SegStore for FreshSegs {
         ensures endless { Unit {0} → ¬ (IsErrOf result Empty) }
         ensures fresh { IfOk result (λ s. s ≡ record { before = []; body = []; after = replicate 2048 0 }) }
     {
-        Seg::new(self.alloc, 0).map_err(|_| NoSeg::OutOfMemory)
+        match Seg::new(self.alloc, 0) {
+            Ok(seg) => Ok(seg),
+            Err(_) => Err(NoSeg::OutOfMemory),
+        }
     }
 
     fn give(&mut self, seg: Seg) {

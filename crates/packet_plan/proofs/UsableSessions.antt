@@ -5,9 +5,9 @@ use Rattle.std.proofs.lemmas.List.Elements.{All-nil, All-cons}
 use Rattle.crypto_model.specs.declared.plain.CipherAlg.TheVariants.{AesCbc, AesCtr}
 use Rattle.crypto_model.specs.declared.plain.Dir.TheVariants.{Encrypt, Decrypt}
 use Rattle.crypto_model.specs.declared.plain.Act.TheVariants.{Generate, Verify}
-use Rattle.crypto_model.specs.Aes.{IsKeyLength}
+use Rattle.crypto_model.specs.Aes.{IsKeyLength, is_key_length}
 use Rattle.crypto_model.specs.Process.{Transform, Cipher, Auth, Aead}
-use Rattle.crypto_model.specs.Session.{is_chain, is_aes_length}
+use Rattle.crypto_model.specs.Session.{is_chain}
 use Rattle.sym_session.specs.Fault.{fault_of}
 use Rattle.session_file.specs.declared.plan.Named.{Named}
 use Rattle.session_file.specs.declared.plan.Plan.{Plan}
@@ -38,7 +38,7 @@ all_usable plan sound = λ k d within. let at = sound.sessions k d within in usa
 
 -- ---- the plan of `quick`
 
-aes-length : (n : ℕ) → IsKeyLength n → is_aes_length n ≡ true
+aes-length : (n : ℕ) → IsKeyLength n → is_key_length n ≡ true
 aes-length n fit = elim fit [ inl e ↦ rw e refl | inr f ↦ elim f [ inl e ↦ rw e refl | inr e ↦ rw e refl ] ]
 
 ctr_made : (key : List ℕ) → IsKeyLength (length key) → fault_of (Cipher AesCtr Encrypt key ∷ []) ≡ None

@@ -1,6 +1,6 @@
 //! How the IVs of a session are made.
 ghost use Rattle.std.specs.Prelude.{◌≡◌, ◌+◌, ◌++◌, None, IsTrue, length, map};
-ghost use Rattle.crypto_model.specs.Session.{is_aes_length};
+ghost use Rattle.crypto_model.specs.Aes.{is_key_length};
 ghost use Rattle.sym_session.specs.Xform.{transform_of};
 ghost use Rattle.sym_session.specs.Fault.{fault_of};
 ghost use Rattle.packet_plan.specs.Ready.{iv_by, rule_of, salt_len};
@@ -24,7 +24,7 @@ pub(crate) enum IvRule {
 }
 
 fn expanded(key: &KeyBytes) -> Key
-    requires { IsTrue (is_aes_length (length key.now)) }
+    requires { IsTrue (is_key_length (length key.now)) }
     ensures { result ≡ key.now }
 {
     match Key::expand(key.bytes()) {

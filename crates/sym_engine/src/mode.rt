@@ -7,8 +7,8 @@ ghost use Rattle.crypto_model.specs.declared.plain.Hash.{Hash as HashFunction};
 ghost use Rattle.aes_modes.specs.Feeding.{IsFed};
 ghost use Rattle.aes_modes.specs.Chaining.{IsChained, IsUnchained};
 ghost use Rattle.sym_engine.specs.Laws.{one_small, block_small, ctr_of_nothing, cbc_encrypt_of_nothing, cbc_decrypt_of_nothing, gcm_of_nothing};
-ghost use Rattle.gcm_core.specs.Sealing.{IsSealed, sealed_len};
-ghost use Rattle.gcm_core.specs.Opening.{IsAbsorbed, IsOpened, absorbed_len};
+ghost use Rattle.gcm_core.specs.Sealing.{IsSealed};
+ghost use Rattle.gcm_core.specs.Opening.{IsAbsorbed, IsOpened};
 ghost use Rattle.hmac_core.specs.States.{HmacHolds};
 
 use aes_modes::{CbcDec, CbcEnc, Ctr};
@@ -23,9 +23,6 @@ pub(crate) trait Mode {
     /// It was begun with this key, this IV and this data that is only authenticated, and has taken in this text.
     ghost holds: { List ℕ → List ℕ → List ℕ → Self → List ℕ → Type 0 };
 
-    /// How many bytes it has counted.
-    ghost counted: { Self → ℕ };
-
     /// What comes out for a text.
     ghost made: { List ℕ → List ℕ → List ℕ → List ℕ };
 
@@ -35,11 +32,9 @@ pub(crate) trait Mode {
 
     /// Takes in a piece, and writes what comes out over it.
     fn feed(&mut self, piece: &mut [u8])
-        requires whole { length piece.old % unit ≡ 0 }
-        requires small { counted self.old + length piece.old < 2 ^ 32 }
-        ensures works { (key iv aad text : List ℕ) → holds key iv aad self.old text
-            → holds key iv aad self.new (text ++ piece.old) × (made key iv (text ++ piece.old) ≡ made key iv text ++ piece.new) }
-        ensures count { counted self.new ≤ counted self.old + length piece.old };
+        requires { length piece.old % unit ≡ 0 }
+        ensures { (key iv aad text : List ℕ) → holds key iv aad self.old text
+            → holds key iv aad self.new (text ++ piece.old) × (made key iv (text ++ piece.old) ≡ made key iv text ++ piece.new) };
 
     ghost unit_range: { (0 < unit) × (unit ≤ 16) };
 
@@ -50,8 +45,6 @@ impl<'a> Mode for Ctr<'a> {
     ghost unit = { 1 };
 
     ghost holds = { λ key iv aad s text. IsFed key iv s text };
-
-    ghost counted = { λ s. 0 };
 
     ghost made = { λ key iv text. ctr (cipher key) iv text };
 
@@ -73,8 +66,6 @@ impl<'a> Mode for CbcEnc<'a> {
 
     ghost holds = { λ key iv aad s text. IsChained key iv s text };
 
-    ghost counted = { λ s. 0 };
-
     ghost made = { λ key iv text. cbc_encrypt (cipher key) iv text };
 
     ghost unit_range = { block_small };
@@ -94,8 +85,6 @@ impl<'a> Mode for CbcDec<'a> {
     ghost unit = { 16 };
 
     ghost holds = { λ key iv aad s text. IsUnchained key iv s text };
-
-    ghost counted = { λ s. 0 };
 
     ghost made = { λ key iv text. cbc_decrypt (inverse_cipher key) iv text };
 
@@ -117,8 +106,6 @@ impl<'a> Mode for GcmSeal<'a> {
 
     ghost holds = { IsSealed };
 
-    ghost counted = { sealed_len };
-
     ghost made = { λ key iv text. gcm_text (cipher key) iv text };
 
     ghost unit_range = { one_small };
@@ -138,8 +125,6 @@ impl<'a> Mode for GcmPlain<'a> {
     ghost unit = { 1 };
 
     ghost holds = { λ key iv aad s text. IsOpened key iv s text };
-
-    ghost counted = { λ s. 0 };
 
     ghost made = { λ key iv text. gcm_text (cipher key) iv text };
 
@@ -164,21 +149,14 @@ pub(crate) trait Absorb {
     /// It was begun with this, and has taken in this text.
     ghost holds: { Begun → Self → List ℕ → Type 0 };
 
-    /// How many bytes it has counted.
-    ghost counted: { Self → ℕ };
-
     fn absorb(&mut self, piece: &[u8])
-        requires { counted self.old + length piece.now < 2 ^ 32 }
-        ensures holds { (begun : Begun) (text : List ℕ) → holds begun self.old text → holds begun self.new (text ++ piece.now) }
-        ensures count { counted self.new ≤ counted self.old + length piece.now };
+        ensures { (begun : Begun) (text : List ℕ) → holds begun self.old text → holds begun self.new (text ++ piece.now) };
 }
 
 impl Absorb for Hmac {
     ghost Begun = { HashFunction × List ℕ };
 
     ghost holds = { λ begun s text. HmacHolds begun.0 begun.1 s text };
-
-    ghost counted = { λ s. 0 };
 
     fn absorb(&mut self, piece: &[u8]) {
         self.feed(piece);
@@ -189,8 +167,6 @@ impl<'a> Absorb for GcmOpen<'a> {
     ghost Begun = { List ℕ × List ℕ × List ℕ };
 
     ghost holds = { λ begun s text. IsAbsorbed begun.0 begun.1 begun.2 s text };
-
-    ghost counted = { absorbed_len };
 
     fn absorb(&mut self, piece: &[u8]) {
         self.absorb(piece);

@@ -27,7 +27,7 @@ pub struct PlainDriver<C> {
     depth: usize,
     queue: VecDeque<Op<C>>,
     stats: Stats,
-    ghost fits: { (deque_len queue ≤ depth) × (depth ≤ deque_capacity queue) × (depth ≤ 4096) },
+    ghost fits: { (length queue.items ≤ depth) × (depth ≤ deque_capacity queue) × (depth ≤ 4096) },
     ghost fresh: { All IsFresh queue.items },
 }
 
@@ -118,7 +118,7 @@ impl<C> Device<C> for PlainDriver<C> {
 
     ghost keeps_depth = { λ d e p. p };
 
-    ghost within_depth = { λ d. subst (λ n. n ≤ depth_of d) (sym (length-map entry_of d.queue.items)) d.fits.0 };
+    ghost within_depth = { λ d. subst (λ n. n ≤ depth_of d) (sym (length-map d.queue.items entry_of)) d.fits.0 };
 
     fn set_up(
         &mut self,

@@ -13,9 +13,7 @@ const MAX_UNIT: usize = 16;
 fn gather<M: Mode>(mode: &mut M, chain: &mut Mbuf, at: usize, unit: usize)
     requires unit { unit ≡ M.unit }
     requires inside { at + unit ≤ length (packet_of chain.old) }
-    requires small { M.counted mode.old + unit < 2 ^ 32 }
     ensures works { TakesIn M.holds M.made mode.old mode.new chain.old chain.new at unit }
-    ensures counted { M.counted mode.new ≤ M.counted mode.old + unit }
 {
     let mut bytes = [0; MAX_UNIT];
     let bytes = &mut bytes[..unit];
@@ -30,10 +28,8 @@ fn take_in<M: Mode>(mode: &mut M, chain: &mut Mbuf, at: usize, left: usize) -> u
     requires inside { at + left ≤ length (packet_of chain.old) }
     requires some { 0 < left }
     requires whole { left % M.unit ≡ 0 }
-    requires small { M.counted mode.old + left < 2 ^ 32 }
     ensures count { (0 < result) × (result ≤ left) × (result % M.unit ≡ 0) }
     ensures works { TakesIn M.holds M.made mode.old mode.new chain.old chain.new at result }
-    ensures counted { M.counted mode.new ≤ M.counted mode.old + result }
 {
     let unit = mode.unit();
     let n = chain.piece(at, left).len() / unit * unit;
@@ -50,7 +46,6 @@ fn take_in<M: Mode>(mode: &mut M, chain: &mut Mbuf, at: usize, left: usize) -> u
 pub(crate) fn work_on<M: Mode>(mode: &mut M, chain: &mut Mbuf, off: usize, len: usize)
     requires inside { off + len ≤ length (packet_of chain.old) }
     requires whole { len % M.unit ≡ 0 }
-    requires small { M.counted mode.old + len < 2 ^ 32 }
     ensures { (key iv aad : List ℕ) → M.holds key iv aad mode.old []
         → M.holds key iv aad mode.new (take len (drop off (packet_of chain.old)))
         × (chain.new ≡ with_packet chain.old (laid_at off (M.made key iv (take len (drop off (packet_of chain.old)))) (packet_of chain.old))) }
@@ -65,7 +60,6 @@ pub(crate) fn work_on<M: Mode>(mode: &mut M, chain: &mut Mbuf, off: usize, len: 
 /// Feeds a range of a packet.
 pub(crate) fn feed_range<A: Absorb>(into: &mut A, chain: &Mbuf, off: usize, len: usize)
     requires inside { off + len ≤ length (packet_of chain.now) }
-    requires small { A.counted into.old + len < 2 ^ 32 }
     ensures { (begun : A.Begun) (text : List ℕ) → A.holds begun into.old text
         → A.holds begun into.new (text ++ take len (drop off (packet_of chain.now))) }
 {

@@ -6,8 +6,8 @@ ghost use Rattle.crypto_model.specs.declared.plain.Dir.{Dir};
 ghost use Rattle.crypto_model.specs.Process.{Cipher, Auth, Aead, crypted, bytes_in, digest_at, with_digest, worked};
 ghost use Rattle.crypto_model.specs.Aes.{cipher};
 ghost use Rattle.crypto_model.specs.Gcm.{gcm_tag, gcm_text};
-ghost use Rattle.gcm_core.specs.Sealing.{IsSealed, sealed_len};
-ghost use Rattle.gcm_core.specs.Opening.{IsAbsorbed, IsOpened, absorbed_len};
+ghost use Rattle.gcm_core.specs.Sealing.{IsSealed};
+ghost use Rattle.gcm_core.specs.Opening.{IsAbsorbed, IsOpened};
 ghost use Rattle.hmac_core.specs.States.{HmacHolds};
 ghost use Rattle.mbuf_chain.specs.Chain.{packet_of, with_packet};
 ghost use Rattle.crypto_op.specs.Op.{with_chain};
@@ -130,8 +130,7 @@ fn auth_work<C>(step: &AuthStep, op: &mut Op<C>, digest: &mut [u8; 64]) -> bool
 
 // Encrypts a range in place, and answers its tag.
 fn seal_range(seal: GcmSeal<'_>, chain: &mut Mbuf, range: Range) -> [u8; 16]
-    requires inside { range.off + range.len ≤ length (packet_of chain.old) }
-    requires new { sealed_len seal ≡ 0 }
+    requires { range.off + range.len ≤ length (packet_of chain.old) }
     ensures { (key iv aad : List ℕ) → IsSealed key iv aad seal.entry []
         → (chain.new ≡ with_packet chain.old (laid_at range.off (gcm_text (cipher key) iv (bytes_in range (packet_of chain.old))) (packet_of chain.old)))
         × (result ≡ gcm_tag (cipher key) iv aad (gcm_text (cipher key) iv (bytes_in range (packet_of chain.old)))) }
@@ -149,7 +148,6 @@ fn verify_range<'a>(
     tag: &[u8],
 ) -> Result<GcmPlain<'a>, BadTag>
     requires inside { range.off + range.len ≤ length (packet_of chain.now) }
-    requires new { absorbed_len ciphertext ≡ 0 }
     requires some { 4 ≤ length tag.now }
     requires most { length tag.now ≤ 16 }
     ensures { (key iv aad : List ℕ) → IsAbsorbed key iv aad ciphertext.entry []

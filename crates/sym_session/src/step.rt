@@ -1,7 +1,7 @@
 //! Transforms with their keys made ready.
 ghost use Rattle.std.specs.Prelude.{◌≡◌, ◌≤◌, [], ◌∷◌, None, IfOk, IsTrue, length, map};
 ghost use Rattle.crypto_model.specs.Hmac.{digest_size};
-ghost use Rattle.crypto_model.specs.Session.{is_aes_length};
+ghost use Rattle.crypto_model.specs.Aes.{is_key_length};
 ghost use Rattle.hmac_core.specs.States.{IsKeyOf};
 
 use crate::key_bytes::KeyBytes;
@@ -22,7 +22,7 @@ pub enum Step {
 }
 
 fn expanded(key: &KeyBytes) -> Key
-    requires { IsTrue (is_aes_length (length key.now)) }
+    requires { IsTrue (is_key_length (length key.now)) }
     ensures { result ≡ key.now }
 {
     match Key::expand(key.bytes()) {

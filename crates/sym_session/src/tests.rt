@@ -328,7 +328,10 @@ fn ciphers_and_aeads_are_the_same_by_each_part(rt: HostRuntime) -> Result<(), Fa
         (CipherAlg::AesCbc, Dir::Decrypt, 1, false),
         (CipherAlg::AesCbc, Dir::Encrypt, 2, false),
     ] {
-        assert_eq!(rt; same(&table, &cipher_table(alloc, alg, dir, byte)?), is_same);
+        assert_eq!(rt;
+            same(&table, &cipher_table(alloc, alg, dir, byte)?),
+            is_same
+        );
     }
     let sealing = aead_table(alloc, Dir::Encrypt, 1, (16, 8))?;
     assert!(rt; !same(&table, &sealing));
@@ -339,7 +342,10 @@ fn ciphers_and_aeads_are_the_same_by_each_part(rt: HostRuntime) -> Result<(), Fa
         (Dir::Encrypt, 1, (12, 8), false),
         (Dir::Encrypt, 1, (16, 0), false),
     ] {
-        assert_eq!(rt; same(&sealing, &aead_table(alloc, dir, byte, lengths)?), is_same);
+        assert_eq!(rt;
+            same(&sealing, &aead_table(alloc, dir, byte, lengths)?),
+            is_same
+        );
     }
     Ok(())
 }

@@ -1,25 +1,12 @@
 //! Transforms as they are asked for.
 ghost use Rattle.std.specs.Prelude.{◌≡◌};
-ghost use Rattle.crypto_model.specs.Hmac.{digest_size};
 ghost use Rattle.crypto_model.specs.Session.{key_fits, digest_fits, aad_len_fits};
 ghost use Rattle.sym_session.specs.Xform.{transform_of};
 
 use crate::key_bytes::KeyBytes;
-use crypto_model::{Act, CipherAlg, Dir, Hash};
+use crypto_model::{Act, CipherAlg, Dir, Hash, is_key_length};
 
 const MAX_AAD: usize = 255;
-
-// The size of the function's digests, in bytes.
-fn size_of_digest(hash: Hash) -> usize
-    ensures { result ≡ digest_size hash }
-{
-    match hash {
-        Hash::Sha224 => 28,
-        Hash::Sha256 => 32,
-        Hash::Sha384 => 48,
-        Hash::Sha512 => 64,
-    }
-}
 
 /// A transform that a session is asked for. Lengths are in bytes.
 #[derive(Drop)]
@@ -52,7 +39,7 @@ impl Xform {
     {
         match self {
             Xform::Cipher { key, .. } | Xform::Aead { key, .. } => {
-                matches!(key.bytes().len(), 16 | 24 | 32)
+                is_key_length(key.bytes().len())
             }
             Xform::Auth { key, .. } => !key.bytes().is_empty(),
         }
@@ -67,7 +54,7 @@ impl Xform {
                 hash,
                 digest_len,
                 ..
-            } => (4..=size_of_digest(*hash)).contains(digest_len),
+            } => (4..=hash.digest_size()).contains(digest_len),
             Xform::Aead { tag_len, .. } => matches!(tag_len, 4 | 8 | 12..=16),
         }
     }

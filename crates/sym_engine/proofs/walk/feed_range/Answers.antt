@@ -18,7 +18,6 @@ loop-done-preserved g c =
     let is = c.piece-piece.ensures.value ∙ ap (λ k. take k (drop (c.args.off + done) xs)) (sym c.piece-piece.ensures.size) in
     record {
       within = omega (arith, i.within, c.piece-piece.ensures.range);
-      counted = omega (arith, i.counted, c.absorb.ensures.count);
       holds = λ begun text h. subst (λ ys. g.A.Absorb.holds begun c.absorb.new.self ys) (joined text xs r c.args.off done (length r) is)
-          (c.absorb.ensures.holds begun (text ++ take done (drop c.args.off xs)) (i.holds begun text h));
+          (c.absorb.ensures begun (text ++ take done (drop c.args.off xs)) (i.holds begun text h));
     }

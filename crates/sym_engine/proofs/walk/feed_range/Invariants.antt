@@ -5,7 +5,6 @@ use Rattle.sym_engine.proofs.walk.feed_range.Given as goal
 abbrev pub invariant-loop-done : goal.invariant-loop-done
 invariant-loop-done g l = record {
   within : l.done ≤ l.len;
-  counted : g.A.Absorb.counted l.into ≤ g.A.Absorb.counted l.fn.into + l.done;
   holds : (begun : g.A.Absorb.Begun) (text : List ℕ) → g.A.Absorb.holds begun l.fn.into text → g.A.Absorb.holds begun l.into (text ++ take l.done (drop l.off (packet_of l.chain)));
 }
 

@@ -26,8 +26,8 @@ returns-then-n-eq0-clause-count g c =
     let range = g.met.M.Mode.unit_range in
     (omega (arith, range, c.unit-unit.ensures), omega (arith, e, c.unit-unit.ensures), ap (λ k. k % g.M.Mode.unit) c.unit-unit.ensures ∙ mod_self g.M.Mode.unit)
 
-pub feed-requires-clause-whole : goal.feed-requires-clause-whole
-feed-requires-clause-whole g c =
+pub feed-requires : goal.feed-requires
+feed-requires g c =
     let u = c.unit-unit.result in
     let m = length c.piece.result.now in
     let n = m / u * u in
@@ -57,5 +57,5 @@ returns-clause-works g c =
       out = w;
       size = long;
       written = piece_laid-packet c.args.chain.now c.args.at w (omega (arith, c.requires)) (omega (arith, long, ap (λ k. piece_len c.args.at k c.args.chain.now) long, less));
-      works = λ key iv aad text h. rw is at (c.feed.ensures.works key iv aad text h);
+      works = λ key iv aad text h. rw is at (c.feed.ensures key iv aad text h);
     }

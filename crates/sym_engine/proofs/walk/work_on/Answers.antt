@@ -17,7 +17,6 @@ loop-done-init g c = record {
   within = omega arith;
   whole = zero-mod g.M.Mode.unit;
   size = refl;
-  counted = omega arith;
   works = λ key iv aad h. (by-begin (g.M.Mode.made key iv) c.args.chain.now c.args.off c.args.len (g.met.M.Mode.made_of_nothing key iv) c.requires.inside, h);
 }
 
@@ -27,9 +26,6 @@ take_in-done-requires-clause-inside g c = omega (arith, c.loop-done.invariant.si
 pub take_in-done-requires-clause-whole : goal.take_in-done-requires-clause-whole
 take_in-done-requires-clause-whole g c =
     units_left c.args.len c.loop-done.done g.M.Mode.unit c.requires.whole c.loop-done.invariant.whole c.loop-done.invariant.within
-
-pub take_in-done-requires-clause-small : goal.take_in-done-requires-clause-small
-take_in-done-requires-clause-small g c = omega (arith, c.loop-done.invariant.counted, c.loop-done.invariant.within, c.requires.small)
 
 pub loop-done-preserved : goal.loop-done-preserved
 loop-done-preserved g c =
@@ -45,7 +41,6 @@ loop-done-preserved g c =
       within = omega (arith, i.within, count);
       whole = units_more done n g.M.Mode.unit i.whole count.2;
       size = ap (λ x. length (packet_of x)) w.written ∙ ap length (packet_of-with_packet c.loop-done.chain (laid_at at w.out packet) (length-laid_at at w.out packet)) ∙ length-laid_at at w.out packet ∙ i.size;
-      counted = omega (arith, i.counted, c.take_in-done.ensures.counted);
       works = λ key iv aad h.
           let f = g.M.Mode.made key iv in
           let r = take n (drop at packet) in

@@ -8,7 +8,6 @@ invariant-loop-done g l = record {
   within : l.done ≤ l.len;
   whole : l.done % g.M.Mode.unit ≡ 0;
   size : length (packet_of l.chain) ≡ length (packet_of l.fn.chain);
-  counted : g.M.Mode.counted l.mode ≤ g.M.Mode.counted l.fn.mode + l.done;
   works : (key iv aad : List ℕ) → g.M.Mode.holds key iv aad l.fn.mode [] → WalkedBy (g.M.Mode.made key iv) l.fn.chain l.off l.len l.done l.chain
       × g.M.Mode.holds key iv aad l.mode (take l.done (range_at l.off l.fn.chain));
 }

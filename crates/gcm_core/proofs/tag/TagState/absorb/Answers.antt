@@ -3,8 +3,8 @@ use Rattle.crypto_model.specs.Gcm.{filled}
 use Rattle.gcm_core.specs.Hashing.{IsHashed}
 use Rattle.gcm_core.proofs.tag.TagState.absorb.Goals as goal
 
-pub returns-clause-taken : goal.returns-clause-taken
-returns-clause-taken c = λ key iv aad text before.
+pub returns : goal.returns
+returns c = λ key iv aad text before.
     let piece = c.args.piece.now in
     record {
       mask = before.mask;

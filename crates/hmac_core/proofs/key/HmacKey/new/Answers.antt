@@ -3,12 +3,12 @@ use Rattle.std.proofs.lemmas.Grind.{common_steps}
 use Rattle.hmac_core.proofs.Keys.{long_key_made, short_key_made, sizes}
 use Rattle.hmac_core.proofs.key.HmacKey.new.Goals as goal
 
-pub returns-then-key-size_of_block-clause-made : goal.returns-then-key-size_of_block-clause-made
-returns-then-key-size_of_block-clause-made c =
-    short_key_made c.args.hash c.args.key.now c.put.new.list (omega (arith, c.size_of_block.ensures)) c.put.ensures
+pub returns-then-key-block_size-clause-made : goal.returns-then-key-block_size-clause-made
+returns-then-key-block_size-clause-made c =
+    short_key_made c.args.hash c.args.key.now c.put.new.list (omega (arith, c.block_size.ensures)) c.put.ensures
 
-pub returns-else-key-size_of_block-clause-made : goal.returns-else-key-size_of_block-clause-made
-returns-else-key-size_of_block-clause-made c =
+pub returns-else-key-block_size-clause-made : goal.returns-else-key-block_size-clause-made
+returns-else-key-block_size-clause-made c =
     let s = (sizes c.args.hash).0 in
-    long_key_made c.args.hash c.args.key.now _ c.put-else-key-size_of_block.new.list (omega (arith, c.size_of_block.ensures)) c.digest-digest.ensures.value
-    (grind (arith, common_steps, s, c.digest-digest.ensures.size)) c.put-else-key-size_of_block.ensures
+    long_key_made c.args.hash c.args.key.now _ c.put-else-key-block_size.new.list (omega (arith, c.block_size.ensures)) c.digest-digest.ensures.value
+    (grind (arith, common_steps, s, c.digest-digest.ensures.size)) c.put-else-key-block_size.ensures

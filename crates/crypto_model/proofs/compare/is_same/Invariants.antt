@@ -1,6 +1,6 @@
 use Rattle.std.proofs.Common.{◌≡◌, length}
 use Rattle.std.specs.Prelude.{bytes_eq, ◌==◌, ◌&&◌}
-use Rattle.hmac_core.proofs.code.is_same.Given as goal
+use Rattle.crypto_model.proofs.compare.is_same.Given as goal
 
 abbrev pub invariant-loop-x : goal.invariant-loop-x
 invariant-loop-x l = record {

@@ -1,7 +1,7 @@
 use Rattle.std.proofs.Common.{arith, inl, inr}
 use Rattle.std.proofs.lemmas.Grind.{common_steps}
-use Rattle.hmac_core.proofs.Comparing.{compared_all, compared_more}
-use Rattle.hmac_core.proofs.code.is_same.Goals as goal
+use Rattle.crypto_model.proofs.Comparing.{compared_all, compared_more}
+use Rattle.crypto_model.proofs.compare.is_same.Goals as goal
 
 pub loop-x-preserved : goal.loop-x-preserved
 loop-x-preserved c =

@@ -84,6 +84,7 @@ impl Key {
         self.rounds
     }
 
+    /// The key as it was given: 16, 24 or 32 bytes.
     pub fn bytes(&self) -> &[u8]
         ensures value { result.now ≡ self.now }
         ensures length { IsKeyLength (length result.now) }

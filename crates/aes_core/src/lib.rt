@@ -1,6 +1,7 @@
 //! AES (FIPS 197) with an expanded key: one block or four by look-ups in tables of sixteen bytes that stay in
 //! vectors, sixteen blocks in the planes of their bits.
-//! A clause sees a [`Key`] as its bytes; `cipher` and `inverse_cipher` are the standard's, under such a key.
+//! A clause sees a [`Key`] as its bytes; `cipher` and `inverse_cipher` are the standard's, under such a key. The proved test
+//! `the_examples_of_the_standard` is a short caller of each.
 #![tactic(auto)]
 
 mod bitslice;

@@ -107,7 +107,7 @@ pub(crate) fn added(a: &Planes, b: &Planes) -> Planes
     ]
 }
 
-/// The doubles of bytes in the field (FIPS 197, 4.3).
+/// The doubles of bytes in the field (FIPS 197, 4.2.1).
 #[inline(always)]
 pub(crate) fn doubled(a: &Planes) -> Planes
     ensures { turned result ≡ map (map (product 2)) (turned a.now) }

@@ -76,6 +76,7 @@ pub enum CipherAlg {
     AesCtr,
 }
 
+/// Whether a cipher or an AEAD encrypts or decrypts.
 #[derive(Clone, Copy, Debug, PartialEq, Eq)]
 pub enum Dir {
     Encrypt,

@@ -119,7 +119,7 @@ fn add_round_key(w: &[u8], r: usize, s: [u8; 16]) -> [u8; 16]
     out
 }
 
-// x ^ 0, x ^ 1 and so on, as far as a schedule asks for them (FIPS 197, table 5).
+// x ^ 0, x ^ 1 and so on, as far as a schedule asks for them (FIPS 197, 5.2: Rcon).
 const ROUND_CONSTANTS: [u8; 10] = [0x01, 0x02, 0x04, 0x08, 0x10, 0x20, 0x40, 0x80, 0x1b, 0x36];
 
 fn power(n: usize) -> u8
@@ -174,7 +174,7 @@ fn put(list: &mut [u8], at: usize, bytes: &[u8])
     list[at..at + bytes.len()].copy_from_slice(bytes);
 }
 
-/// The key schedule of AES (FIPS 197, 5.2), with zeros behind it.
+/// The key schedule of AES (FIPS 197, 5.2), at the front of the array.
 pub fn expanded<S: Substitution>(key: &[u8]) -> [u8; 240]
     requires { IsKeyLength (length key.now) }
     ensures schedule { take (16 * (rounds_of key.now + 1)) result ≡ expanded key.now }
@@ -202,7 +202,7 @@ fn cipher_with(w: &[u8], rounds: usize, block: [u8; 16]) -> [u8; 16]
     add_round_key(w, rounds, shift_rows(sub_bytes(s)))
 }
 
-/// The cipher of AES (FIPS 197, 5.1), a byte at a time and with no table. A block takes about a
+/// The cipher of AES (FIPS 197, 5.1), a byte at a time, with no table but the ten round constants. A block takes about a
 /// million steps.
 pub fn slow_encrypt(key: &[u8], block: [u8; 16]) -> Result<[u8; 16], BadKeyLength>
     ensures ok { IfOk result (λ c. c ≡ cipher key.now block) }

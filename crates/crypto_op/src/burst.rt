@@ -1,5 +1,5 @@
 //! A list of operations with a fixed capacity.
-ghost use Rattle.std.specs.Prelude.{◌≡◌, ◌∷◌, [], ◌++◌, ◌+◌, ◌<◌, ◌≤◌, ◌-◌, length, IfOk, IsSome, ◌↔◌, slice_index_or};
+ghost use Rattle.std.specs.Prelude.{◌≡◌, ◌==◌, ◌∷◌, [], ◌++◌, ◌+◌, ◌<◌, ◌≤◌, ◌-◌, length, IfOk, IsSome, ◌↔◌, slice_index_or};
 ghost use Rattle.std.specs.Option.{option_to_list};
 ghost use Rattle.crypto_op.specs.Burst.{at_pos};
 
@@ -9,6 +9,7 @@ use std::alloc::Global;
 use std::collections::VecDeque;
 use std::marker::Model;
 
+/// Operations in a row, first in, first out, with room for `cap`. Only `new` takes memory.
 #[derive(Drop)]
 pub struct OpBurst<C> {
     cap: usize,
@@ -29,6 +30,7 @@ impl<C> Model for OpBurst<C> {
 }
 
 impl<C> OpBurst<C> {
+    /// An empty burst with room for at most 4,096 operations.
     pub fn new(alloc: Global, cap: usize) -> Result<OpBurst<C>, OutOfMemory>
         requires { cap ≤ 4096 }
         ensures { IfOk result (λ b. b ≡ record { cap = cap; ops = [] }) }
@@ -39,18 +41,28 @@ impl<C> OpBurst<C> {
         })
     }
 
+    /// How many operations are in it.
     pub fn len(&self) -> usize
         ensures { result ≡ length self.now.ops }
     {
         self.ops.len()
     }
 
+    /// Whether there is none.
+    pub fn is_empty(&self) -> bool
+        ensures { result ≡ (length self.now.ops == 0) }
+    {
+        self.ops.is_empty()
+    }
+
+    /// How many more it takes.
     pub fn room(&self) -> usize
         ensures { result + length self.now.ops ≡ self.now.cap }
     {
         self.cap - self.ops.len()
     }
 
+    /// Puts an operation last. There must be room.
     pub fn push(&mut self, op: Op<C>)
         requires { length self.old.ops < self.old.cap }
         ensures { self.new ≡ record { cap = self.old.cap; ops = self.old.ops ++ op ∷ [] } }
@@ -61,6 +73,7 @@ impl<C> OpBurst<C> {
         }
     }
 
+    /// Takes the first operation.
     pub fn pop(&mut self) -> Option<Op<C>>
         ensures cap { self.new.cap ≡ self.old.cap }
         ensures ops { self.old.ops ≡ option_to_list result ++ self.new.ops }
@@ -69,6 +82,7 @@ impl<C> OpBurst<C> {
         self.ops.pop_front()
     }
 
+    /// Operation `i`, counted from 0.
     pub fn get(&self, i: usize) -> &Op<C>
         requires { i < length self.now.ops }
         ensures { result.now ≡ slice_index_or self.now.ops i result.now }
@@ -76,6 +90,7 @@ impl<C> OpBurst<C> {
         &self.ops[i]
     }
 
+    /// Gives operation `i` another pos, and changes nothing else.
     pub fn set_pos(&mut self, i: usize, pos: u64)
         requires { i < length self.old.ops }
         ensures { self.new ≡ record { cap = self.old.cap; ops = at_pos self.old.ops i pos } }

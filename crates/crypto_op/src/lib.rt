@@ -5,7 +5,8 @@
 //! a contract can say of an operation that comes back what it is the answer to. It `IsFresh` where it
 //! isn't processed and has its made request; it `IsDone` where it has the answer to it.
 //!
-//! A burst is a list of operations with a fixed capacity, first in, first out.
+//! A burst is a list of operations with a fixed capacity, first in, first out. The proved tests
+//! `an_operation_is_changed_and_taken_apart` and `a_burst_gives_operations_in_their_order` are short callers.
 #![tactic(auto)]
 
 mod burst;

@@ -23,6 +23,7 @@ impl Model for Iv {
 }
 
 impl Iv {
+    /// Copies 0 to 16 bytes.
     pub fn copy(bytes: &[u8]) -> Iv
         requires { length bytes.now ≤ 16 }
         ensures { result ≡ bytes.now }

@@ -62,6 +62,7 @@ fn a_burst_gives_operations_in_their_order(rt: HostRuntime) -> Result<(), Fail> 
     assert_eq!(rt; burst.pop().ok_or("no operation")?.spec().pos, 5);
     assert_eq!(rt; burst.pop().ok_or("no operation")?.spec().pos, 8);
     assert!(rt; burst.pop().is_none());
+    assert!(rt; burst.is_empty());
     Ok(())
 }
 

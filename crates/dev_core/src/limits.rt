@@ -20,6 +20,7 @@ impl Model for LimitList {
 }
 
 impl LimitList {
+    /// Copies these limits, the first call's first.
     pub fn copy(alloc: Global, limits: &[u32]) -> Result<LimitList, OutOfMemory>
         ensures { IfOk result (λ l. l ≡ limits.now) }
     {

@@ -51,6 +51,7 @@ impl<D: Drop> LogDriver<D> {
 impl<D> LogDriver<D> {
     ghost use Rattle.dev_core.specs.Log.{inner_of, log_of, cap_of};
 
+    /// The entries of all operations taken since it was set up, in their order.
     pub fn log(&self) -> &[LogEntry]
         ensures entries { result.now ≡ log_of self.now }
         ensures most { length (log_of self.now) ≤ cap_of self.now }
@@ -58,12 +59,14 @@ impl<D> LogDriver<D> {
         self.log.as_slice()
     }
 
+    /// The device below.
     pub fn inner(&self) -> &D
         ensures { result.now ≡ inner_of self.now }
     {
         &self.inner
     }
 
+    /// Hands the device below back.
     pub fn into_inner(self) -> D
         ensures { result ≡ inner_of self }
     {

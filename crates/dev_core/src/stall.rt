@@ -33,6 +33,7 @@ pub struct StallDriver<D> {
 impl<D> StallDriver<D> {
     ghost use Rattle.dev_core.specs.Stall.{inner_of, enqueues_of, dequeues_of, cuts_of, stats_of};
 
+    /// Over this device, with no call counted yet.
     pub fn new(inner: D, enqueue: Limits, dequeue: Limits) -> StallDriver<D>
         ensures inner { inner_of result ≡ inner }
         ensures enqueues { enqueues_of result ≡ record { limits = enqueue; calls = 0 } }
@@ -55,12 +56,14 @@ impl<D> StallDriver<D> {
         }
     }
 
+    /// The device below.
     pub fn inner(&self) -> &D
         ensures { result.now ≡ inner_of self.now }
     {
         &self.inner
     }
 
+    /// Hands the device below back.
     pub fn into_inner(self) -> D
         ensures { result ≡ inner_of self }
     {

@@ -8,7 +8,7 @@ use crate::table::{product, table};
 use aes_core::{Key, encrypt};
 use std::marker::Model;
 
-/// An expanded key for GCM, which contracts see as the key's bytes. It takes about 9 KB.
+/// An expanded key for GCM, which contracts see as the key's bytes. It takes about 12.5 KB.
 #[derive(Drop)]
 pub struct GcmKey {
     key: Key,

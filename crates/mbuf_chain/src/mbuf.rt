@@ -1,5 +1,5 @@
 //! One packet, in segments.
-ghost use Rattle.std.specs.Prelude.{◌≡◌, ◌↔◌, ◌+◌, ◌-◌, ◌<◌, ◌≤◌, [], ◌∷◌, ◌++◌, length, take, drop, replicate, slice_index_or, IfOk, IfErr, IsErr, OnOk, OnErr};
+ghost use Rattle.std.specs.Prelude.{◌≡◌, ◌==◌, ◌↔◌, ◌+◌, ◌-◌, ◌<◌, ◌≤◌, [], ◌∷◌, ◌++◌, length, take, drop, replicate, slice_index_or, IfOk, IfErr, IsErr, OnOk, OnErr};
 ghost use Rattle.std.specs.Borrow.{sem};
 ghost use Rattle.std.specs.Result.{IsErrOf};
 ghost use Rattle.crypto_model.specs.Chain.{laid_at};
@@ -60,6 +60,7 @@ impl Mbuf {
         Mbuf { segs }
     }
 
+    /// The segments in order.
     pub fn into_segs(self) -> SegList
         ensures { result ≡ self }
     {
@@ -67,12 +68,14 @@ impl Mbuf {
         segs
     }
 
+    /// The segments in order.
     pub fn segs(&self) -> &SegList
         ensures { result.now ≡ self.now }
     {
         &self.segs
     }
 
+    /// How many segments there are.
     pub fn seg_count(&self) -> usize
         ensures value { result ≡ length self.now }
         ensures range { (0 < result) × (result ≤ 256) }
@@ -90,6 +93,13 @@ impl Mbuf {
             all += self.segs.get(i).len();
         }
         all
+    }
+
+    /// Whether the packet has no bytes.
+    pub fn is_empty(&self) -> bool
+        ensures { result ≡ (length (packet_of self.now) == 0) }
+    {
+        self.len() == 0
     }
 
     /// Puts `n` zero bytes behind the last segment's data.
@@ -229,6 +239,7 @@ impl Mbuf {
         }
     }
 
+    /// Copies all of `bytes` into the packet from `off` on.
     pub fn write_at(&mut self, off: usize, bytes: &[u8])
         requires { off + length bytes.now ≤ length (packet_of self.old) }
         ensures { self.new ≡ with_packet self.old (laid_at off bytes.now (packet_of self.old)) }

@@ -99,8 +99,10 @@ fn truncate_drops_the_segments_that_are_not_needed(rt: HostRuntime) -> Result<()
     packet.truncate(3);
     assert_packet(&rt, &packet, b"abc", 1);
     assert!(rt; packet.len() == 3);
+    assert!(rt; !packet.is_empty());
     packet.truncate(0);
     assert_packet(&rt, &packet, b"", 1);
+    assert!(rt; packet.is_empty());
     Ok(())
 }
 

@@ -1,5 +1,5 @@
 //! A list of segments, in a vector whose room is reserved.
-ghost use Rattle.std.specs.Prelude.{◌≡◌, ◌+◌, ◌<◌, ◌≤◌, [], ◌∷◌, ◌++◌, length, slice_index_or, IfOk, IfErr, ◌↔◌, IsNone};
+ghost use Rattle.std.specs.Prelude.{◌≡◌, ◌==◌, ◌+◌, ◌<◌, ◌≤◌, [], ◌∷◌, ◌++◌, length, slice_index_or, IfOk, IfErr, ◌↔◌, IsNone};
 ghost use Rattle.std.specs.Option.{option_to_list};
 ghost use Rattle.std.specs.Borrow.{sem};
 ghost use Rattle.std.specs.Map.Iter.{ShowsInOrder, deref};
@@ -30,6 +30,7 @@ impl Model for SegList {
 }
 
 impl SegList {
+    /// An empty list.
     pub fn new(alloc: Global) -> Result<SegList, OutOfMemory>
         ensures { IfOk result (λ l. l ≡ []) }
     {
@@ -37,11 +38,19 @@ impl SegList {
         Ok(SegList { segs })
     }
 
+    /// How many segments there are.
     pub fn len(&self) -> usize
         ensures value { result ≡ length self.now }
         ensures most { length self.now ≤ 256 }
     {
         self.segs.len()
+    }
+
+    /// Whether there is none.
+    pub fn is_empty(&self) -> bool
+        ensures { result ≡ (length self.now == 0) }
+    {
+        self.segs.is_empty()
     }
 
     /// Puts a segment last, or hands it back where memory is wanting.
@@ -53,6 +62,7 @@ impl SegList {
         self.segs.push(seg).map_err(|failed| failed.value)
     }
 
+    /// Takes the first segment. Takes no memory.
     pub fn pop_front(&mut self) -> Option<Seg>
         ensures first { self.old ≡ option_to_list result ++ self.new }
         ensures none { IsNone result ↔ self.old ≡ [] }
@@ -63,6 +73,7 @@ impl SegList {
         Some(self.segs.remove(0))
     }
 
+    /// Takes the last segment. Takes no memory.
     pub fn pop_back(&mut self) -> Option<Seg>
         ensures last { self.old ≡ self.new ++ option_to_list result }
         ensures none { IsNone result ↔ self.old ≡ [] }
@@ -81,6 +92,7 @@ impl SegList {
         }
     }
 
+    /// Segment `i`, counted from 0.
     pub fn get(&self, i: usize) -> &Seg
         requires { i < length self.now }
         ensures { result.now ≡ slice_index_or self.now i result.now }
@@ -88,6 +100,7 @@ impl SegList {
         &self.segs[i]
     }
 
+    /// Lends segment `i` to be changed.
     pub fn get_mut(&mut self, i: usize) -> &mut Seg
         requires { i < length self.old }
         ensures* writes_back { sem 𝓛 (LendsSeg self.entry i result) }

@@ -1,5 +1,5 @@
 //! A buffer with a place of its data.
-ghost use Rattle.std.specs.Prelude.{◌≡◌, ◌+◌, ◌-◌, ◌≤◌, [], length, take, drop, replicate, IfOk};
+ghost use Rattle.std.specs.Prelude.{◌≡◌, ◌==◌, ◌+◌, ◌-◌, ◌≤◌, [], length, take, drop, replicate, IfOk};
 ghost use Rattle.std.specs.Borrow.{sem};
 ghost use Rattle.seg_list.specs.Buffer.{IsWhole, bytes_of, cut_at};
 ghost use Rattle.seg_list.specs.Lending.{LendsData};
@@ -49,6 +49,7 @@ impl Seg {
         self.len = len;
     }
 
+    /// Where the data begins in the buffer.
     pub fn off(&self) -> usize
         ensures value { result ≡ length self.now.before }
         ensures whole { IsWhole self.now }
@@ -56,6 +57,7 @@ impl Seg {
         self.off
     }
 
+    /// How many bytes of data there are.
     pub fn len(&self) -> usize
         ensures value { result ≡ length self.now.body }
         ensures whole { IsWhole self.now }
@@ -63,6 +65,14 @@ impl Seg {
         self.len
     }
 
+    /// Whether there is none.
+    pub fn is_empty(&self) -> bool
+        ensures { result ≡ (length self.now.body == 0) }
+    {
+        self.len == 0
+    }
+
+    /// The data.
     pub fn data(&self) -> &[u8]
         ensures value { result.now ≡ self.now.body }
         ensures whole { IsWhole self.now }

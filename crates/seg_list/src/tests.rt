@@ -14,6 +14,7 @@ fn sixteen_bytes(alloc: Global) -> Result<Seg, Fail> {
 fn a_new_segment_is_empty(rt: HostRuntime) -> Result<(), Fail> {
     let seg = Seg::new(rt.alloc(), 128)?;
     assert_eq!(rt; (seg.off(), seg.len()), (128, 0));
+    assert!(rt; seg.is_empty());
     assert_eq!(rt; seg.data(), b"".as_slice());
     Ok(())
 }
@@ -89,6 +90,7 @@ fn assert_offs(rt: &impl Abort, list: &SegList, offs: &[usize]) {
 fn a_new_list_is_empty(rt: HostRuntime) -> Result<(), Fail> {
     let mut list = SegList::new(rt.alloc())?;
     assert_eq!(rt; list.len(), 0);
+    assert!(rt; list.is_empty());
     assert!(rt; list.pop_front().is_none());
     assert!(rt; list.pop_back().is_none());
     assert_offs(&rt, &list, &[]);

@@ -22,6 +22,7 @@ impl Model for KeyBytes {
 }
 
 impl KeyBytes {
+    /// Copies 0 to 1,024 bytes.
     pub fn copy(alloc: Global, bytes: &[u8]) -> Result<KeyBytes, OutOfMemory>
         requires { length bytes.now ≤ 1024 }
         ensures { IfOk result (λ k. k ≡ bytes.now) }
@@ -31,6 +32,7 @@ impl KeyBytes {
         Ok(KeyBytes { bytes: copied })
     }
 
+    /// The bytes, in order.
     pub fn bytes(&self) -> &[u8]
         ensures value { result.now ≡ self.now }
         ensures most { length result.now ≤ 1024 }

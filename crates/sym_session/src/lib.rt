@@ -1,5 +1,13 @@
 //! Sessions: lists of transforms, checked once, with their keys made ready. A clause sees a [`Session`] as
 //! its list of transforms, and a [`SessionTable`] as the list of those lists.
+//!
+//! ```text
+//! let session = Session::make(alloc, &[Xform::Cipher { alg, dir, key }])?;
+//! let id = table.add(session)?;
+//! ```
+//!
+//! `fault_of` says why a list of transforms is no session, the first of the faults in the order of [`MakeRefused`]. The
+//! proved test `a_table_numbers_its_sessions` is a short caller.
 #![tactic(auto)]
 
 mod compare;

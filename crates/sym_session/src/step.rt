@@ -130,12 +130,14 @@ impl Model for AuthStep {
 }
 
 impl AuthStep {
+    /// The hash function.
     pub fn hash(&self) -> Hash
         ensures { result ≡ self.now.hash }
     {
         self.hash
     }
 
+    /// Whether the digest is written or compared.
     pub fn act(&self) -> Act
         ensures { result ≡ self.now.act }
     {
@@ -190,6 +192,7 @@ impl Model for AeadStep {
 }
 
 impl AeadStep {
+    /// Whether it seals or opens.
     pub fn dir(&self) -> Dir
         ensures { result ≡ self.now.dir }
     {

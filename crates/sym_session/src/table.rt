@@ -39,6 +39,7 @@ impl SessionTable {
         })
     }
 
+    /// Adds a session and answers its number: 0, 1, 2 and so on. Takes no memory.
     pub fn add(&mut self, s: Session) -> Result<SessId, TableFull>
         ensures number { IfOk result (λ id. id.0 ≡ length self.old) }
         ensures added { IfOk result (λ _. self.new ≡ self.old ++ s ∷ []) }
@@ -56,6 +57,7 @@ impl SessionTable {
         }
     }
 
+    /// The session of this number.
     pub fn get(&self, id: SessId) -> Option<&Session>
         ensures { option_copied result ≡ slice_get self.now id.0 }
     {
@@ -68,6 +70,7 @@ impl SessionTable {
         self.sessions.as_slice()
     }
 
+    /// How many sessions there are.
     pub fn len(&self) -> usize
         ensures count { result ≡ length self.now }
         ensures most { result ≤ 1024 }
@@ -75,6 +78,7 @@ impl SessionTable {
         self.sessions.len()
     }
 
+    /// Whether there is none.
     pub fn is_empty(&self) -> bool
         ensures { result ≡ (length self.now == 0) }
     {

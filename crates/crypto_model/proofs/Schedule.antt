@@ -1,7 +1,7 @@
 -- The key schedule as it grows.
 use Rattle.std.proofs.Common.{◌≡◌, ℕ, suc, ◌+◌, ◌-◌, ◌*◌, ◌/◌, ◌≤◌, List, ◌++◌, length, take, drop, arith, refl, ap, sym, ◌∙◌, length-append, length-drop, length-take}
 use Rattle.std.proofs.lemmas.List.{take_at, length-take-le}
-use Rattle.crypto_model.specs.Aes.{schedule, next_word}
+use Rattle.crypto_model.specs.Aes.{schedule, next_word, xor_words}
 use Rattle.crypto_model.proofs.Listed.{length-listed}
 
 pub take-put : (w ys : List ℕ) (a n : ℕ) → a ≤ length w → n ≡ a + length ys → take n (take a w ++ ys ++ drop n w) ≡ take a w ++ ys
@@ -13,7 +13,7 @@ length-put w ys a n fits e = simp (length-append, length-drop, length-take) (ome
 pub schedule_more : (key w v ys : List ℕ) (i nk : ℕ) → (length w ≡ 240) × (take (4 * i) w ≡ schedule key (i - nk)) → nk ≡ length key / 4 → nk ≤ i → 4 * i + 4 ≤ 240
     → ys ≡ next_word nk (take (4 * i) w) i → v ≡ take (4 * i) w ++ ys ++ drop (4 * i + length ys) w
     → (length v ≡ 240) × (take (4 * (i + 1)) v ≡ schedule key (i + 1 - nk))
-unfolding schedule next_word
+unfolding schedule next_word xor_words
 schedule_more key w v ys i nk held e low fits y put =
     let l : length ys ≡ 4 = ap length y ∙ length-listed 4 _ in
     let f : i + 1 - nk ≡ suc (i - nk) = omega arith in

@@ -1,5 +1,5 @@
 -- AES (FIPS 197) as functions on lists of bytes. The byte in row r and column c of a state stands at r + 4 * c.
-use Rattle.std.specs.Prelude.{◌≡◌, ◌⊎◌, ℕ, zero, suc, ◌+◌, ◌-◌, ◌*◌, ◌/◌, ◌%◌, List, ◌++◌, length, map, eqb, cond, Bool, ◌&&◌, ◌||◌, nat_eq, bit_xor, slice_index}
+use Rattle.std.specs.Prelude.{◌≡◌, ◌⊎◌, ℕ, zero, suc, ◌+◌, ◌-◌, ◌*◌, ◌/◌, ◌%◌, List, [], ◌∷◌, ◌++◌, length, map, eqb, cond, Bool, ◌&&◌, ◌||◌, nat_eq, bit_xor, slice_index}
 use Rattle.std.specs.List.{range_with_len}
 use Rattle.crypto_model.specs.Field.{product, sub_byte}
 
@@ -45,18 +45,32 @@ is_key_length n = nat_eq n 16 || (nat_eq n 24 || nat_eq n 32)
 abbrev pub rounds_of : List ℕ → ℕ
 rounds_of key = length key / 4 + 6
 
--- byte j of the word that is put to word i - Nk of the schedule w, with nk = Nk: of the key lengths only 8 is above 6 (5.2)
-unfoldable pub temp_byte : ℕ → List ℕ → ℕ → ℕ → ℕ
-temp_byte nk w i j =
-    cond (eqb (i % nk) 0)
-    (bit_xor (sub_byte (slice_index w (4 * (i - 1) + (j + 1) % 4))) (cond (eqb j 0) (power (i / nk - 1)) 0))
-    (cond (eqb nk 8 && eqb (i % 8) 4)
-    (sub_byte (slice_index w (4 * (i - 1) + j)))
-    (slice_index w (4 * (i - 1) + j)))
+-- word i of the schedule w
+unfoldable pub word_of : List ℕ → ℕ → List ℕ
+word_of w i = listed 4 (λ j. slice_index w (4 * i + j))
+
+-- RotWord, SubWord and word n of Rcon (5.2)
+unfoldable pub rot_word : List ℕ → List ℕ
+rot_word t = listed 4 (λ j. slice_index t ((j + 1) % 4))
+
+unfoldable pub sub_word : List ℕ → List ℕ
+sub_word t = listed 4 (λ j. sub_byte (slice_index t j))
+
+abbrev pub rcon : ℕ → List ℕ
+rcon n = power (n - 1) ∷ 0 ∷ 0 ∷ 0 ∷ []
+
+unfoldable pub xor_words : List ℕ → List ℕ → List ℕ
+xor_words s t = listed 4 (λ j. bit_xor (slice_index s j) (slice_index t j))
+
+-- temp: what is added to word i - Nk of the schedule w, with nk = Nk, of which only 8 is above 6 (5.2)
+unfoldable pub temp : ℕ → List ℕ → ℕ → List ℕ
+temp nk w i =
+    let t = word_of w (i - 1) in
+    cond (eqb (i % nk) 0) (xor_words (sub_word (rot_word t)) (rcon (i / nk))) (cond (eqb nk 8 && eqb (i % 8) 4) (sub_word t) t)
 
 -- word i from the words before it
 unfoldable pub next_word : ℕ → List ℕ → ℕ → List ℕ
-next_word nk w i = listed 4 (λ j. bit_xor (slice_index w (4 * (i - nk) + j)) (temp_byte nk w i j))
+next_word nk w i = xor_words (word_of w (i - nk)) (temp nk w i)
 
 -- the key, and n words behind it
 unfoldable pub schedule : List ℕ → ℕ → List ℕ

@@ -62,7 +62,10 @@ gctr_from e iv n (block ∷ more) = xor_with block (e (counter_block iv n)) ++ g
 unfoldable pub gcm_text : (List ℕ → List ℕ) → List ℕ → List ℕ → List ℕ
 gcm_text e iv text = gctr_from e iv 2 (blocks text)
 
--- the tag of 16 bytes over a ciphertext (7.1)
+-- the tag of 16 bytes over a ciphertext, by the hash subkey H, the block J0 and the hash S (7.1)
 unfoldable pub gcm_tag : (List ℕ → List ℕ) → List ℕ → List ℕ → List ℕ → List ℕ
 gcm_tag e iv aad text =
-    xor_with (bytes_of (ghash_from (bits_of (e (replicate 16 0))) (replicate 128 0) (hashed aad text))) (e (counter_block iv 1))
+    let h = bits_of (e (replicate 16 0)) in
+    let j0 = counter_block iv 1 in
+    let s = ghash_from h (replicate 128 0) (hashed aad text) in
+    xor_with (bytes_of s) (e j0)

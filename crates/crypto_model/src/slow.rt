@@ -1,7 +1,7 @@
 //! AES in the standard's own steps: the key schedule, and a cipher that fast code is compared with.
 ghost use Rattle.std.specs.Prelude.{◌++◌, drop, ◌-◌, ◌/◌, take, ◌≡◌, ◌+◌, ◌*◌, ◌<◌, ◌≤◌, ◌↔◌, ℕ, length, slice_index, IsTrue, IfOk, IsErr};
 ghost use Rattle.crypto_model.specs.Field.{inverse, product, sub_byte};
-ghost use Rattle.crypto_model.specs.Aes.{IsKeyLength, is_key_length, add_round_key, cipher, cipher_with, expanded, mix_columns, mixed, next_word, power, rounds, rounds_of, shift_rows, sub_bytes, temp_byte};
+ghost use Rattle.crypto_model.specs.Aes.{IsKeyLength, is_key_length, add_round_key, cipher, cipher_with, expanded, mix_columns, mixed, next_word, power, rot_word, rounds, rounds_of, shift_rows, sub_bytes, sub_word, temp, word_of, xor_words};
 
 use thiserror::Error;
 
@@ -129,26 +129,52 @@ fn power(n: usize) -> u8
     ROUND_CONSTANTS[n]
 }
 
-// Byte `j` of the word temp, which is added to word `i - nk`.
-fn temp_byte<S: Substitution>(nk: usize, w: &[u8], i: usize, j: usize) -> u8
+fn word_of(w: &[u8], i: usize) -> [u8; 4]
+    requires { 4 * i + 4 ≤ length w.now }
+    ensures { result ≡ word_of w.now i }
+{
+    [w[4 * i], w[4 * i + 1], w[4 * i + 2], w[4 * i + 3]]
+}
+
+fn rot_word(t: [u8; 4]) -> [u8; 4]
+    ensures { result ≡ rot_word t }
+{
+    [t[1], t[2], t[3], t[0]]
+}
+
+fn sub_word<S: Substitution>(t: [u8; 4]) -> [u8; 4]
+    ensures { result ≡ sub_word t }
+{
+    [
+        S::sub_byte(t[0]),
+        S::sub_byte(t[1]),
+        S::sub_byte(t[2]),
+        S::sub_byte(t[3]),
+    ]
+}
+
+fn xor_words(s: [u8; 4], t: [u8; 4]) -> [u8; 4]
+    ensures { result ≡ xor_words s t }
+{
+    [s[0] ^ t[0], s[1] ^ t[1], s[2] ^ t[2], s[3] ^ t[3]]
+}
+
+// What is added to word `i - nk` (FIPS 197, 5.2).
+fn temp<S: Substitution>(nk: usize, w: &[u8], i: usize) -> [u8; 4]
     requires low { 4 ≤ nk }
     requires word { nk ≤ i }
     requires last { i < 4 * (nk + 7) }
-    requires byte { j < 4 }
     requires room { 4 * i ≤ length w.now }
-    ensures { result ≡ temp_byte nk w.now i j }
+    ensures { result ≡ temp nk w.now i }
 {
+    let t = word_of(w, i - 1);
     if i % nk == 0 {
-        let turn = S::sub_byte(w[4 * (i - 1) + (j + 1) % 4]);
-        if j == 0 {
-            turn ^ power(i / nk - 1)
-        } else {
-            turn
-        }
+        let rcon = [power(i / nk - 1), 0, 0, 0];
+        xor_words(sub_word::<S>(rot_word(t)), rcon)
     } else if nk == 8 && i % 8 == 4 {
-        S::sub_byte(w[4 * (i - 1) + j])
+        sub_word::<S>(t)
     } else {
-        w[4 * (i - 1) + j]
+        t
     }
 }
 
@@ -160,11 +186,7 @@ fn next_word<S: Substitution>(nk: usize, w: &[u8], i: usize) -> [u8; 4]
     requires room { 4 * i ≤ length w.now }
     ensures { result ≡ next_word nk w.now i }
 {
-    let mut out = [0; 4];
-    'bytes: for j in 0..4 {
-        out[j] = w[4 * (i - nk) + j] ^ temp_byte::<S>(nk, w, i, j);
-    }
-    out
+    xor_words(word_of(w, i - nk), temp::<S>(nk, w, i))
 }
 
 fn put(list: &mut [u8], at: usize, bytes: &[u8])

@@ -1,8 +1,7 @@
-use Rattle.std.proofs.Common.{arith}
+use Rattle.std.proofs.Common.{refl}
 use Rattle.crypto_model.specs.Aes.{next_word}
-use Rattle.crypto_model.proofs.Listed.{listed_all}
 use Rattle.crypto_model.proofs.slow.next_word.Goals as goal
 
 pub returns : goal.returns
 unfolding next_word
-returns g c = listed_all 4 _ _ c.bytes.j c.bytes.invariant.0 c.bytes.invariant.1 (omega arith)
+returns g c = rw (c.xor_words.ensures, c.word_of.ensures, c.temp.ensures) refl

@@ -34,6 +34,8 @@ def codes():
 
 
 def tags(aesgcm):
+    tag = aesgcm(bytes(16)).encrypt(bytes(12), b"", bytes(range(20)))
+    expect("crypto_model/src/laws.rt", tag.hex(), "tag of 20 bytes of data")
     name = "gcm_core/src/tests.rt"
     iv = bytes.fromhex("cafebabefacedbaddecaf888")
     text = bytes((7 * i + 3) % 256 for i in range(70))

@@ -1,5 +1,5 @@
 -- The definitions, computed on the standards' vectors.
-use Rattle.std.proofs.Common.{◌≡◌, [], drop, refl}
+use Rattle.std.proofs.Common.{◌≡◌, ◌++◌, [], drop, refl}
 use Rattle.std.specs.List.{range_with_len}
 use Rattle.std.specs.Prelude.{replicate}
 use Rattle.crypto_model.specs.Block.{block}
@@ -24,9 +24,22 @@ pub back_128_vector : inverse_cipher (range_with_len 0 16) (block 0x69c4e0d86a7b
 unfolding product remainder times inverse_below inverse of_bits sub_byte listed sub_bytes shift_rows mix_columns add_round_key power word_of rot_word sub_word xor_words temp next_word schedule expanded rounds cipher_with cipher unsub_below inverse_sub_bytes inverse_shift_rows inverse_mix_columns inverse_rounds inverse_cipher_with inverse_cipher
 back_128_vector = refl
 
+pub back_192_vector : inverse_cipher (range_with_len 0 24) (block 0xdda97ca4864cdfe06eaf70a0ec0d7191) ≡ block 0x00112233445566778899aabbccddeeff
+unfolding product remainder times inverse_below inverse of_bits sub_byte listed sub_bytes shift_rows mix_columns add_round_key power word_of rot_word sub_word xor_words temp next_word schedule expanded rounds cipher_with cipher unsub_below inverse_sub_bytes inverse_shift_rows inverse_mix_columns inverse_rounds inverse_cipher_with inverse_cipher
+back_192_vector = refl
+
+pub back_256_vector : inverse_cipher (range_with_len 0 32) (block 0x8ea2b7ca516745bfeafc49904b496089) ≡ block 0x00112233445566778899aabbccddeeff
+unfolding product remainder times inverse_below inverse of_bits sub_byte listed sub_bytes shift_rows mix_columns add_round_key power word_of rot_word sub_word xor_words temp next_word schedule expanded rounds cipher_with cipher unsub_below inverse_sub_bytes inverse_shift_rows inverse_mix_columns inverse_rounds inverse_cipher_with inverse_cipher
+back_256_vector = refl
+
 pub cbc_vector : cbc_encrypt (cipher (block 0x2b7e151628aed2a6abf7158809cf4f3c)) (range_with_len 0 16) (block 0x6bc1bee22e409f96e93d7e117393172a) ≡ block 0x7649abac8119b246cee98e9b12e9197d
 unfolding product remainder times inverse_below inverse of_bits sub_byte listed sub_bytes shift_rows mix_columns add_round_key power word_of rot_word sub_word xor_words temp next_word schedule expanded rounds cipher_with cipher xor_with cut blocks cbc_encrypt_from cbc_encrypt
 cbc_vector = refl
+
+pub cbc_two_vector : cbc_encrypt (cipher (block 0x2b7e151628aed2a6abf7158809cf4f3c)) (range_with_len 0 16) (block 0x6bc1bee22e409f96e93d7e117393172a ++ block 0xae2d8a571e03ac9c9eb76fac45af8e51)
+    ≡ block 0x7649abac8119b246cee98e9b12e9197d ++ block 0x5086cb9b507219ee95db113a917678b2
+unfolding product remainder times inverse_below inverse of_bits sub_byte listed sub_bytes shift_rows mix_columns add_round_key power word_of rot_word sub_word xor_words temp next_word schedule expanded rounds cipher_with cipher xor_with cut blocks cbc_encrypt_from cbc_encrypt
+cbc_two_vector = refl
 
 pub cbc_back_vector : cbc_decrypt (inverse_cipher (block 0x2b7e151628aed2a6abf7158809cf4f3c)) (range_with_len 0 16) (block 0x7649abac8119b246cee98e9b12e9197d) ≡ block 0x6bc1bee22e409f96e93d7e117393172a
 unfolding product remainder times inverse_below inverse of_bits sub_byte listed sub_bytes shift_rows mix_columns add_round_key power word_of rot_word sub_word xor_words temp next_word schedule expanded rounds cipher_with cipher unsub_below inverse_sub_bytes inverse_shift_rows inverse_mix_columns inverse_rounds inverse_cipher_with inverse_cipher xor_with cut blocks cbc_decrypt_from cbc_decrypt
@@ -43,6 +56,10 @@ ctr_carry_vector = refl
 pub gcm_empty_vector : gcm_tag (cipher (replicate 16 0)) (replicate 12 0) [] [] ≡ block 0x58e2fccefa7e3061367f1d57a4e7455a
 unfolding product remainder times inverse_below inverse of_bits sub_byte listed sub_bytes shift_rows mix_columns add_round_key power word_of rot_word sub_word xor_words temp next_word schedule expanded rounds cipher_with cipher xor_with cut blocks bits_of number_of bytes_of times_x block_product ghash_from filled hashed gcm_tag
 gcm_empty_vector = refl
+
+pub gcm_data_vector : gcm_tag (cipher (replicate 16 0)) (replicate 12 0) (range_with_len 0 20) [] ≡ block 0x6cb71d8230f1c75a6bbc9f23ad201c0b
+unfolding product remainder times inverse_below inverse of_bits sub_byte listed sub_bytes shift_rows mix_columns add_round_key power word_of rot_word sub_word xor_words temp next_word schedule expanded rounds cipher_with cipher xor_with cut blocks bits_of number_of bytes_of times_x block_product ghash_from filled hashed gcm_tag
+gcm_data_vector = refl
 
 pub gcm_text_vector : gcm_text (cipher (replicate 16 0)) (replicate 12 0) (replicate 16 0) ≡ block 0x0388dace60b6a392f328c2b971b2fe78
 unfolding product remainder times inverse_below inverse of_bits sub_byte listed sub_bytes shift_rows mix_columns add_round_key power word_of rot_word sub_word xor_words temp next_word schedule expanded rounds cipher_with cipher xor_with cut blocks gctr_from gcm_text

@@ -1,4 +1,4 @@
-use Rattle.crypto_model.proofs.Vectors.{aes_128_vector, aes_192_vector, aes_256_vector, back_128_vector}
+use Rattle.crypto_model.proofs.Vectors.{back_256_vector, back_192_vector, aes_128_vector, aes_192_vector, aes_256_vector, back_128_vector}
 use Rattle.crypto_model.proofs.laws.cipher_vectors.Goals as goal
 
 pub returns-clause-aes_128 : goal.returns-clause-aes_128
@@ -12,3 +12,9 @@ returns-clause-aes_256 c = aes_256_vector
 
 pub returns-clause-back_128 : goal.returns-clause-back_128
 returns-clause-back_128 c = back_128_vector
+
+pub returns-clause-back_192 : goal.returns-clause-back_192
+returns-clause-back_192 c = back_192_vector
+
+pub returns-clause-back_256 : goal.returns-clause-back_256
+returns-clause-back_256 c = back_256_vector

@@ -1,4 +1,4 @@
-use Rattle.crypto_model.proofs.Vectors.{cbc_vector, cbc_back_vector, ctr_vector, ctr_carry_vector}
+use Rattle.crypto_model.proofs.Vectors.{cbc_two_vector, cbc_vector, cbc_back_vector, ctr_vector, ctr_carry_vector}
 use Rattle.crypto_model.proofs.laws.mode_vectors.Goals as goal
 
 pub returns-clause-cbc : goal.returns-clause-cbc
@@ -12,3 +12,6 @@ returns-clause-ctr c = ctr_vector
 
 pub returns-clause-ctr_carry : goal.returns-clause-ctr_carry
 returns-clause-ctr_carry c = ctr_carry_vector
+
+pub returns-clause-cbc_two : goal.returns-clause-cbc_two
+returns-clause-cbc_two c = cbc_two_vector

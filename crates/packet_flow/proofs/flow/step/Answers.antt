@@ -14,7 +14,7 @@ use Rattle.packet_flow.specs.Entries.{entries_from}
 use Rattle.packet_flow.specs.declared.flow.FlowEnd.TheVariants as flow_end
 use Rattle.packet_flow.specs.Passage.{Outside}
 use Rattle.packet_flow.proofs.Ends.{begun_first, ends_cut, ends_whole, flows_behind}
-use Rattle.packet_flow.proofs.Turning.{few_taken, few_held, queued_on, device_on, few_on, moved_by, some_moves, all_read, no_items, some_items, no_fault, written_by, cut_by, if_err_at, not_err_at, at_rest, offers_on, took_on}
+use Rattle.packet_flow.proofs.Turning.{enqueued_few, few_taken, few_held, queued_on, device_on, few_on, moved_by, some_moves, all_read, no_items, some_items, no_fault, written_by, cut_by, if_err_at, not_err_at, at_rest, offers_on, took_on}
 use Rattle.packet_flow.proofs.flow.step.Goals.{else-len-eq0-via-then-len-eq0+else-is_empty, else-len-eq0-via-else-len-eq0}
 use Rattle.packet_flow.proofs.flow.step.Goals as goal
 
@@ -61,6 +61,11 @@ pub turn-accepted-requires-clause-few : goal.turn-accepted-requires-clause-few
 turn-accepted-requires-clause-few g c =
     let u = c.in_ok-fill.ensures.underway c.requires.underway.0 _ c.requires.underway.2 refl refl c.requires.underway.4 in
     omega (arith, few_held c.args.plan.now c.requires.underway.0 g.S.Source.tells g.K.Sink.tells c.fill.new.passage _ u)
+
+pub turn-accepted-requires-clause-counted : goal.turn-accepted-requires-clause-counted
+turn-accepted-requires-clause-counted g c =
+    let u = c.in_ok-fill.ensures.underway c.requires.underway.0 _ c.requires.underway.2 refl refl c.requires.underway.4 in
+    omega (arith, enqueued_few c.args.plan.now c.requires.underway.0 g.S.Source.tells g.K.Sink.tells c.fill.new.passage _ u)
 
 pub turn-accepted-requires-clause-between : goal.turn-accepted-requires-clause-between
 turn-accepted-requires-clause-between g c =
@@ -119,6 +124,7 @@ returns-clause-underway g c b past first big at ran u0 =
           (u.writes told) (c.in_ok-write_ready.ensures.written told plan u.used _ between b.base);
       between = c.in_ok-write_ready.ensures.between plan u.used _ between;
       counts = counts.1;
+      made = u.made;
       queued = queued_on u.taken (entries_from plan 0 u.used) n p.burst c.turn-accepted.new.burst c.turn-accepted.ensures.rest u.queued;
       device = device_on b u.taken n p.burst _ _ _ _ c.turn-accepted.ensures.within u.device c.turn-accepted.ensures.enqueued c.turn-accepted.ensures.log;
       few = few_on u.taken n c.turn-accepted.result.1 (length (g.D.Driver.held c.args.dev.now)) (length (g.D.Driver.held c.turn-accepted.new.dev)) p.burst c.turn-accepted.ensures.within u.few c.turn-accepted.ensures.count;

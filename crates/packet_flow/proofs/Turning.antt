@@ -260,7 +260,7 @@ new_burst : (size k : ℕ) (taken burst more : List LogEntry) → k ≡ length t
 new_burst size k taken burst more at filled =
     let behind : drop k ((taken ++ burst) ++ more) ≡ burst ++ more = ap (λ (l : List LogEntry). drop k l) (append_assoc taken burst more) ∙ ap (λ (n : ℕ). drop n (taken ++ (burst ++ more))) at ∙ drop-append_seam taken (burst ++ more) in
     elim filled [
-        inl full ↦ sym (ap (take size) behind ∙ ap (λ (n : ℕ). take n (burst ++ more)) (sym full) ∙ take-append_seam burst more)
+      | inl full ↦ sym (ap (take size) behind ∙ ap (λ (n : ℕ). take n (burst ++ more)) (sym full) ∙ take-append_seam burst more)
       | inr all ↦ sym (ap (take size) behind ∙ ap (λ (l : List LogEntry). take size (burst ++ l)) all.0 ∙ ap (take size) (append-nil burst) ∙ take_all size burst all.1)
     ]
 
@@ -284,7 +284,7 @@ module _ (plan : Plan) (b : Before) (s_tells k_tells : Type 0) (old p : Passage)
   right_burst : (more : List LogEntry) → ((stop : ReadStop) → p.stop ≡ Some stop → p.waiting.items ≡ [] → more ≡ [])
       → map log_entry p.burst.ops ≡ next_burst b.size (entries_from plan 0 u.used ++ more) (taken_by o.past) (rest_of_burst o.past)
   right_burst more none = elim filled [
-      inl same ↦
+    | inl same ↦
         let is : map log_entry p.burst.ops ≡ rest_of_burst o.past = ap (λ (x : Burst (Op Card)). map log_entry x.ops) same.1 ∙ at.rest in
         same_burst b.size (entries_from plan 0 u.used ++ more) (taken_by o.past) (rest_of_burst o.past) (map log_entry p.burst.ops) is
         (omega (arith, same.0, length-map old.burst.ops (log_entry {C = Card}), ap length at.rest))
@@ -307,12 +307,18 @@ module _ (plan : Plan) (b : Before) (s_tells k_tells : Type 0) (old p : Passage)
 
   pub took_on : (n : ℕ) (now : List Call) → n ≤ length p.burst.ops → OnlyAsked (with_offer (map log_entry p.burst.ops) n o.past) now → length (u.taken ++ front_log n p.burst) ≡ taken_by now
   took_on n now within asked =
-      omega (arith, length-append u.taken (front_log n p.burst), length-front_log n p.burst within, u.took, asked.taken,
-      taken_with (map log_entry p.burst.ops) n o.past (omega (arith, within, length-map p.burst.ops (log_entry {C = Card}))))
+      omega (
+        arith,
+        length-append u.taken (front_log n p.burst),
+        length-front_log n p.burst within,
+        u.took,
+        asked.taken,
+        taken_with (map log_entry p.burst.ops) n o.past (omega (arith, within, length-map p.burst.ops (log_entry {C = Card}))),
+      )
 
   no_rest : map log_entry p.burst.ops ≡ [] → rest_of_burst o.past ≡ []
   no_rest none = elim filled [
-      inl same ↦ absurd (omega (arith, same.0, ap (λ (x : Burst (Op Card)). length x.ops) same.1, ap length none, length-map p.burst.ops (log_entry {C = Card})))
+    | inl same ↦ absurd (omega (arith, same.0, ap (λ (x : Burst (Op Card)). length x.ops) same.1, ap length none, length-map p.burst.ops (log_entry {C = Card})))
     | inr new ↦ sym at.rest ∙ ap (map log_entry) new.0
   ]
 

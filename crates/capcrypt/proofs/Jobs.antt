@@ -1,5 +1,5 @@
 -- How each way out of a run meets what is said of the run.
-use Rattle.std.proofs.Common.{◌≡◌, ◌⊎◌, inl, inr, ℕ, Bool, true, false, ◌+◌, ◌<◌, ◌≤◌, List, [], ◌∷◌, ◌++◌, length, take, drop, refl, ◌∙◌, ap, sym, subst, arith, append_assoc, length-append, length-take, length-drop}
+use Rattle.std.proofs.Common.{◌≡◌, ◌⊎◌, inl, inr, ℕ, zero, suc, Bool, true, false, ◌+◌, ◌<◌, ◌≤◌, List, [], ◌∷◌, ◌++◌, length, get_or, set, map, take, drop, refl, ◌∙◌, ap, sym, subst, arith, append_assoc, length-append, length-take, length-drop}
 use Rattle.std.specs.Prelude.{Option, None, Some, option_map}
 use Rattle.std.proofs.lemmas.List.{append-nil, take_all, take-append-le, take-append-drop}
 use Rattle.std.proofs.lemmas.List.Concat.{flat_map-append}
@@ -25,9 +25,10 @@ use Rattle.packet_flow.specs.Reads.{ReadsAs}
 use Rattle.capcrypt.specs.declared.ending.Outcome.{Outcome}
 use Rattle.capcrypt.specs.declared.ending.Ending.{Ending}
 use Rattle.capcrypt.specs.declared.ending.Ending.TheVariants.{Done, Memory, Usage, Vdev, Capture, Sessions, ReadFault, WriteFault, Stalled, TooLarge}
-use Rattle.capcrypt.specs.Start.{Start, Begins, Stops}
+use Rattle.capcrypt.specs.Devices.{DeviceNow, workers, at}
+use Rattle.capcrypt.specs.Start.{Settings, Start, Begins, Stops}
 use Rattle.capcrypt.specs.Written.{raised, ending_at}
-use Rattle.capcrypt.specs.Ran.{Job, IsWritten, IsDecided, DeviceNow, HasServed, ServesFront, AppendsRecords, AppendsUpto, flow_ending}
+use Rattle.capcrypt.specs.Ran.{Job, IsWritten, IsDecided, IsLate, HasServed, ServesFront, ServesWhole, AppendsRecords, AppendsUpto, flow_ending, stop_ending}
 
 -- no record is empty
 length-spelled : (big : Bool) (x : ℕ) → length (spelled big 4 x) ≡ 4
@@ -75,18 +76,18 @@ more_bytes big answers head n within = by_rest (drop n answers) refl
           length-append head (flat_map (answer_bytes big) (take (n + 1) answers)),
         ))
 
-module _ (plan : Plan) (h : Header) (rs : List Rec) (rest : Rest) (old new : List ℕ) where
+module _ (s : Settings) (h : Header) (rs : List Rec) (rest : Rest) (old new : List ℕ) where
   abbrev head : List ℕ
   head = header_bytes (raised h)
 
   abbrev answers : List Answered
-  answers = answered_from plan 0 rs
+  answers = answered_from s.plan 0 rs
 
   abbrev body : List ℕ
   body = flat_map (answer_bytes h.big) answers
 
   -- a front of the header alone
-  header_front : (k : ℕ) → k ≤ length head → new ≡ old ++ take k head → AppendsUpto (Begins plan) (Holds h rs rest) 0 old new
+  header_front : (k : ℕ) → k ≤ length head → new ≡ old ++ take k head → AppendsUpto (Begins s) (Holds h rs rest) 0 old new
   header_front k fits front = record {
     k = k;
     front = front ∙ ap (λ (l : List ℕ). old ++ l) (sym (take-append-le k head body fits));
@@ -98,14 +99,14 @@ module _ (plan : Plan) (h : Header) (rs : List Rec) (rest : Rest) (old new : Lis
   }
 
   -- the header alone, or less
-  pub header_cut : AppendsPart old new head → AppendsUpto (Begins plan) (Holds h rs rest) 0 old new
+  pub header_cut : AppendsPart old new head → AppendsUpto (Begins s) (Holds h rs rest) 0 old new
   header_cut part = header_front part.0 (omega (arith, part.1)) part.2
 
   cut_inside : (n : ℕ) → CutAt h.big answers n (old ++ head) new → n < length answers
   cut_inside n cut = omega (arith, ap length cut.split, length-append (take n answers) (cut.next ∷ cut.others), length-take n answers)
 
   -- the records, but not all of them
-  records_cut : (n : ℕ) → CutAt h.big answers n (old ++ head) new → AppendsUpto (Begins plan) (Holds h rs rest) n old new
+  records_cut : (n : ℕ) → CutAt h.big answers n (old ++ head) new → AppendsUpto (Begins s) (Holds h rs rest) n old new
   records_cut n cut =
       let front = flat_map (answer_bytes h.big) (take n answers) in
       let one = answer_bytes h.big cut.next in
@@ -125,7 +126,7 @@ module _ (plan : Plan) (h : Header) (rs : List Rec) (rest : Rest) (old new : Lis
       }
 
   -- all of the records
-  all_front : (n : ℕ) → n ≡ length answers → new ≡ old ++ (head ++ body) → AppendsUpto (Begins plan) (Holds h rs rest) n old new
+  all_front : (n : ℕ) → n ≡ length answers → new ≡ old ++ (head ++ body) → AppendsUpto (Begins s) (Holds h rs rest) n old new
   all_front n count wrote = record {
     k = length (head ++ body);
     front = wrote ∙ ap (λ (l : List ℕ). old ++ l) (sym (take_all (length (head ++ body)) (head ++ body) (omega arith)));
@@ -133,12 +134,12 @@ module _ (plan : Plan) (h : Header) (rs : List Rec) (rest : Rest) (old new : Lis
     no_more = inl count;
   }
 
-  nothing_front : (n : ℕ) → n ≡ 0 → new ≡ old → AppendsUpto (Begins plan) (Holds h rs rest) n old new
+  nothing_front : (n : ℕ) → n ≡ 0 → new ≡ old → AppendsUpto (Begins s) (Holds h rs rest) n old new
   nothing_front n none same =
       rw none (header_front 0 (omega arith) (same ∙ sym (append-nil old)))
 
   -- n records, and nothing of the next
-  records_front : (n : ℕ) → n ≤ length answers → new ≡ old ++ (head ++ flat_map (answer_bytes h.big) (take n answers)) → AppendsUpto (Begins plan) (Holds h rs rest) n old new
+  records_front : (n : ℕ) → n ≤ length answers → new ≡ old ++ (head ++ flat_map (answer_bytes h.big) (take n answers)) → AppendsUpto (Begins s) (Holds h rs rest) n old new
   records_front n within wrote =
       let front = flat_map (answer_bytes h.big) (take n answers) in
       let behind = flat_map (answer_bytes h.big) (drop n answers) in
@@ -155,26 +156,43 @@ module _ (plan : Plan) (h : Header) (rs : List Rec) (rest : Rest) (old new : Lis
   -- what stands where all was written
   all_written : (n : ℕ) → n ≡ length rs → new ≡ (old ++ head) ++ flat_map (answer_bytes h.big) (take n answers) → new ≡ old ++ (head ++ body)
   all_written n count wrote =
-      let all : take n answers ≡ answers = take_all n answers (omega (arith, length-answered_from plan 0 rs)) in
+      let all : take n answers ≡ answers = take_all n answers (omega (arith, length-answered_from s.plan 0 rs)) in
       wrote ∙ ap (λ (l : List Answered). (old ++ head) ++ flat_map (answer_bytes h.big) l) all ∙ append_assoc old head body
 
   -- by how the flow ended, and by why the reading stopped
   stop_written : (stop : ReadStop) (n : ℕ) → n ≤ length rs → (IsDecided (flow_ending (flow.Stopped stop)) → n ≡ length rs)
-      → new ≡ (old ++ head) ++ flat_map (answer_bytes h.big) (take n answers) → IsWritten (flow_ending (flow.Stopped stop)) (Begins plan) (Holds h rs rest) n old new
+      → new ≡ (old ++ head) ++ flat_map (answer_bytes h.big) (take n answers) → IsWritten (flow_ending (flow.Stopped stop)) (Begins s) (Holds h rs rest) n old new
   stop_written ReadStop.End n within all wrote = all_written n (all tt) wrote
   stop_written (BadCapture at cause) n within all wrote = all_written n (all tt) wrote
   stop_written (ReadStop.TooLarge value) n within all wrote = all_written n (all tt) wrote
   stop_written Fault n within all wrote = inr (wrote ∙ append_assoc old head (flat_map (answer_bytes h.big) (take n answers)))
   stop_written OutOfMemory n within all wrote =
-      records_front n (omega (arith, within, length-answered_from plan 0 rs)) (wrote ∙ append_assoc old head (flat_map (answer_bytes h.big) (take n answers)))
+      records_front n (omega (arith, within, length-answered_from s.plan 0 rs)) (wrote ∙ append_assoc old head (flat_map (answer_bytes h.big) (take n answers)))
 
   flow_written : (end : FlowEnd) (n : ℕ) → n ≤ length rs → (IsDecided (flow_ending end) → n ≡ length rs) → IsWrittenBy end h.big answers n (old ++ head) new
-      → IsWritten (flow_ending end) (Begins plan) (Holds h rs rest) n old new
+      → IsWritten (flow_ending end) (Begins s) (Holds h rs rest) n old new
   flow_written (flow.Stopped stop) n within all wrote = stop_written stop n within all wrote
   flow_written flow.WriteFault n within all cut = records_cut n cut
   flow_written flow.Stalled n within all wrote = inr (wrote ∙ append_assoc old head (flat_map (answer_bytes h.big) (take n answers)))
   flow_written flow.OutOfMemory n within all wrote =
-      records_front n (omega (arith, within, length-answered_from plan 0 rs)) (wrote ∙ append_assoc old head (flat_map (answer_bytes h.big) (take n answers)))
+      records_front n (omega (arith, within, length-answered_from s.plan 0 rs)) (wrote ∙ append_assoc old head (flat_map (answer_bytes h.big) (take n answers)))
+
+stop_late : (stop : ReadStop) → IsLate (stop_ending stop)
+stop_late ReadStop.End = tt
+stop_late (BadCapture at cause) = tt
+stop_late (ReadStop.TooLarge value) = tt
+stop_late Fault = tt
+stop_late OutOfMemory = tt
+
+-- a flow ends behind words and session text
+pub flow_late : (e : Ending) (end : FlowEnd) → e ≡ flow_ending end → IsLate e
+flow_late e (flow.Stopped stop) is = subst IsLate (sym is) (stop_late stop)
+flow_late e flow.WriteFault is = subst IsLate (sym is) tt
+flow_late e flow.Stalled is = subst IsLate (sym is) tt
+flow_late e flow.OutOfMemory is = subst IsLate (sym is) tt
+
+pub read_late : (e : Ending) (stop : ReadStop) → e ≡ stop_ending stop → IsLate e
+read_late e stop is = subst IsLate (sym is) (stop_late stop)
 
 -- a decided end is that of the whole capture
 module _ (plan : Plan) (rs : List Rec) (rest : Rest) (n : ℕ) (taken : List LogEntry) where
@@ -204,85 +222,115 @@ module _ (plan : Plan) (rs : List Rec) (rest : Rest) (n : ℕ) (taken : List Log
   ends_at flow.Stalled d w = absurd d
   ends_at flow.OutOfMemory d w = absurd d
 
-module _ (plan : Plan) (h : Header) (rs : List Rec) (rest : Rest) (o : Outcome) (old base new : List ℕ) (log : Option (List LogEntry)) (d : DeviceNow) where
+-- whatever is so of device 0 is so of each used device
+only_first : (P : ℕ → Type 0) → P 0 → (i : ℕ) → i < workers → P i
+only_first P first zero below = first
+only_first P first (suc i) below = absurd (omega (arith, below))
+
+module _ (s : Settings) (h : Header) (rs : List Rec) (rest : Rest) (o : Outcome) (old base new : List ℕ) (before now : List DeviceNow) where
+  abbrev log : Option (List LogEntry)
+  log = (at before 0).log
+
+  abbrev d : DeviceNow
+  d = at now 0
+
+  -- the used device has taken the first k operations
+  pub first_taken : (k : ℕ) → HasServed s.plan (take k (entries_from s.plan 0 rs)) log d → ServesFront (Begins s) (Holds h rs rest) before now
+  first_taken k served = only_first (λ i. (j : ℕ) × HasServed s.plan (take j (entries_from s.plan 0 rs)) (at before i).log (at now i)) (k, served)
+
+  pub all_taken : HasServed s.plan (entries_from s.plan 0 rs) log d → ServesWhole (Begins s) (Holds h rs rest) before now
+  all_taken served = only_first (λ i. HasServed s.plan (entries_from s.plan 0 rs) (at before i).log (at now i)) served
+
   -- no operation was taken yet
-  pub none_taken : d.depth ≡ 128 → d.sessions ≡ sessions_of plan → d.enqueued ≡ 0 → d.log ≡ option_map (λ l. []) log → ServesFront (Begins plan) (Holds h rs rest) log d
-  none_taken depth sessions enqueued logged = (0, record { depth = depth; sessions = sessions; enqueued = enqueued; log = logged })
+  pub none_taken : d.depth ≡ 128 → d.sessions ≡ sessions_of s.plan → d.enqueued ≡ 0 → d.log ≡ option_map (λ l. []) log → ServesFront (Begins s) (Holds h rs rest) before now
+  none_taken depth sessions enqueued logged = first_taken 0 (record { depth = depth; sessions = sessions; enqueued = enqueued; log = logged })
 
   -- the header could not be written
-  pub header_failed : o ≡ record { ending = WriteFault; counts = counts_of []; header = true } → AppendsPart old new (header_bytes (raised h)) → ServesFront (Begins plan) (Holds h rs rest) log d
-      → Job (Begins plan) (Holds h rs rest) o old new ⊥ log d
+  pub header_failed : o ≡ record { ending = WriteFault; counts = counts_of []; header = true } → AppendsPart old new (header_bytes (raised h))
+      → ServesFront (Begins s) (Holds h rs rest) before now → Job (Begins s) (Holds h rs rest) o old new ⊥ before now
   header_failed is part served = rw is (record {
     n = 0;
     within = omega arith;
     counts = refl;
-    written = header_cut plan h rs rest old new part;
-    device = inr served;
+    written = header_cut s h rs rest old new part;
+    devices = inr served;
     stalled = λ e. absurd (let no : WriteFault ≡ Stalled = e in cc);
     decided = λ no. absurd no;
   })
 
+  -- memory was wanting before the header was written
+  pub not_set_up : (unused : Type 0) → o ≡ record { ending = Memory; counts = counts_of []; header = true } → new ≡ old → unused
+      → Job (Begins s) (Holds h rs rest) o old new unused before now
+  not_set_up unused is same idle = rw is (record {
+    n = 0;
+    within = omega arith;
+    counts = refl;
+    written = nothing_front s h rs rest old new 0 refl same;
+    devices = inl idle;
+    stalled = λ e. absurd (let no : Memory ≡ Stalled = e in cc);
+    decided = λ no. absurd no;
+  })
+
   -- the packets flowed, to this end
-  pub flowed : (end : FlowEnd) (taken : List LogEntry) → d.depth ≡ 128 → d.sessions ≡ sessions_of plan → base ≡ old ++ header_bytes (raised h) → o.ending ≡ flow_ending end → o.header ≡ true
-      → d.enqueued ≡ capped (length taken) → d.log ≡ option_map (λ l. taken) log → Flowed plan h.big rs rest end o.counts base new taken
-      → Job (Begins plan) (Holds h rs rest) o old new ⊥ log d
+  pub flowed : (end : FlowEnd) (taken : List LogEntry) → d.depth ≡ 128 → d.sessions ≡ sessions_of s.plan → base ≡ old ++ header_bytes (raised h)
+      → o.ending ≡ flow_ending end → o.header ≡ true → d.enqueued ≡ capped (length taken) → d.log ≡ option_map (λ l. taken) log
+      → Flowed s.plan h.big rs rest end o.counts base new taken → Job (Begins s) (Holds h rs rest) o old new ⊥ before now
   flowed end taken depth sessions wrote ending header enqueued logged f =
-      let e = entries_from plan 0 rs in
-      let served : HasServed plan taken log d = record { depth = depth; sessions = sessions; enqueued = enqueued; log = logged } in
-      let front : ServesFront (Begins plan) (Holds h rs rest) log d = (f.k, subst (λ (l : List LogEntry). HasServed plan l log d) f.front served) in
-      let all : IsDecided (flow_ending end) → f.n ≡ length rs = λ x. (f.whole (decided_whole plan rs rest f.n taken end x)).records in
+      let served : HasServed s.plan taken log d = record { depth = depth; sessions = sessions; enqueued = enqueued; log = logged } in
+      let front = first_taken f.k (subst (λ (l : List LogEntry). HasServed s.plan l log d) f.front served) in
+      let all : IsDecided (flow_ending end) → f.n ≡ length rs = λ x. (f.whole (decided_whole s.plan rs rest f.n taken end x)).records in
       record {
         n = f.n;
-        within = omega (arith, f.within, length-answered_from plan 0 rs);
+        within = omega (arith, f.within, length-answered_from s.plan 0 rs);
         counts = f.counts_are;
-        written = subst (λ (x : Ending). IsWritten x (Begins plan) (Holds h rs rest) f.n old new) (sym ending)
-            (flow_written plan h rs rest old new end f.n f.within all (subst (λ (l : List ℕ). IsWrittenBy end h.big (answered_from plan 0 rs) f.n l new) wrote f.written));
-        device = inr front;
-        stalled = λ x. front;
+        written = subst (λ (x : Ending). IsWritten x (Begins s) (Holds h rs rest) f.n old new) (sym ending)
+            (flow_written s h rs rest old new end f.n f.within all (subst (λ (l : List ℕ). IsWrittenBy end h.big (answered_from s.plan 0 rs) f.n l new) wrote f.written));
+        devices = inr front;
+        stalled = λ x. (header, front);
         decided = λ x.
             let known : IsDecided (flow_ending end) = subst IsDecided ending x in
-            let w = f.whole (decided_whole plan rs rest f.n taken end known) in
+            let w = f.whole (decided_whole s.plan rs rest f.n taken end known) in
             record {
-              ending = ending ∙ ends_at plan rs rest f.n taken end known w;
-              records = w.records ∙ sym (length-answered_from plan 0 rs);
+              ending = ending ∙ ends_at s.plan rs rest f.n taken end known w;
+              records = w.records ∙ sym (length-answered_from s.plan 0 rs);
               header = header;
-              device = subst (λ (l : List LogEntry). HasServed plan l log d) w.taken served;
+              devices = all_taken (subst (λ (l : List LogEntry). HasServed s.plan l log d) w.taken served);
             };
       }
 
 -- the same run, whose sink could not be flushed
-module _ (plan : Plan) (h : Header) (rs : List Rec) (rest : Rest) (o o' : Outcome) (old new : List ℕ) (unused : Type 0) (log : Option (List LogEntry)) (d : DeviceNow) where
+module _ (s : Settings) (h : Header) (rs : List Rec) (rest : Rest) (o o' : Outcome) (old new : List ℕ) (unused : Type 0) (before now : List DeviceNow) where
   abbrev count : ℕ
-  count = length (answered_from plan 0 rs)
+  count = length (answered_from s.plan 0 rs)
 
-  upto_records : (n : ℕ) → n ≤ count → AppendsRecords (Begins plan) (Holds h rs rest) n old new → AppendsUpto (Begins plan) (Holds h rs rest) n old new
+  upto_records : (n : ℕ) → n ≤ count → AppendsRecords (Begins s) (Holds h rs rest) n old new → AppendsUpto (Begins s) (Holds h rs rest) n old new
   upto_records n within written = elim written [
-    | inl nothing ↦ nothing_front plan h rs rest old new n nothing.1 nothing.0
-    | inr some ↦ records_front plan h rs rest old new n within some
+    | inl nothing ↦ nothing_front s h rs rest old new n nothing.1 nothing.0
+    | inr some ↦ records_front s h rs rest old new n within some
   ]
 
-  upto_of : (e : Ending) (n : ℕ) → n ≤ count → (IsDecided e → n ≡ count) → IsWritten e (Begins plan) (Holds h rs rest) n old new → AppendsUpto (Begins plan) (Holds h rs rest) n old new
+  upto_of : (e : Ending) (n : ℕ) → n ≤ count → (IsDecided e → n ≡ count) → IsWritten e (Begins s) (Holds h rs rest) n old new → AppendsUpto (Begins s) (Holds h rs rest) n old new
   upto_of Memory n within all written = written
   upto_of WriteFault n within all written = written
   upto_of ReadFault n within all written = upto_records n within written
   upto_of Stalled n within all written = upto_records n within written
-  upto_of Done n within all written = all_front plan h rs rest old new n (all tt) written
-  upto_of Usage n within all written = all_front plan h rs rest old new n (all tt) written
-  upto_of (Vdev at) n within all written = all_front plan h rs rest old new n (all tt) written
-  upto_of (Capture at cause) n within all written = all_front plan h rs rest old new n (all tt) written
-  upto_of (Sessions line kind) n within all written = all_front plan h rs rest old new n (all tt) written
-  upto_of (TooLarge value) n within all written = all_front plan h rs rest old new n (all tt) written
+  upto_of Done n within all written = all_front s h rs rest old new n (all tt) written
+  upto_of Usage n within all written = all_front s h rs rest old new n (all tt) written
+  upto_of (Vdev at) n within all written = all_front s h rs rest old new n (all tt) written
+  upto_of (Capture at cause) n within all written = all_front s h rs rest old new n (all tt) written
+  upto_of (Sessions line kind) n within all written = all_front s h rs rest old new n (all tt) written
+  upto_of (TooLarge value) n within all written = all_front s h rs rest old new n (all tt) written
 
-  pub flush_failed : Job (Begins plan) (Holds h rs rest) o old new unused log d → o' ≡ record o { ending = WriteFault } → Job (Begins plan) (Holds h rs rest) o' old new unused log d
+  pub flush_failed : Job (Begins s) (Holds h rs rest) o old new unused before now → o' ≡ record o { ending = WriteFault } → Job (Begins s) (Holds h rs rest) o' old new unused before now
   flush_failed job is =
       let ending : o'.ending ≡ WriteFault = ap (λ (x : Outcome). x.ending) is in
       record {
         n = job.n;
         within = job.within;
         counts = ap (λ (x : Outcome). x.counts) is ∙ job.counts;
-        written = subst (λ (e : Ending). IsWritten e (Begins plan) (Holds h rs rest) job.n old new) (sym ending)
+        written = subst (λ (e : Ending). IsWritten e (Begins s) (Holds h rs rest) job.n old new) (sym ending)
             (upto_of o.ending job.n job.within (λ x. (job.decided x).records) job.written);
-        device = job.device;
+        devices = job.devices;
         stalled = λ x. absurd (let no : WriteFault ≡ Stalled = sym ending ∙ x in cc);
         decided = λ x. absurd (subst IsDecided ending x);
       }
@@ -301,34 +349,44 @@ served_before plan taken log emptied d is s = record {
   log = s.log ∙ ap (option_map (λ l. taken)) is ∙ map_twice taken [] log;
 }
 
--- the device was set up first, which emptied its log
-pub set_up_first : (plan : Plan) (h : Header) (rs : List Rec) (rest : Rest) (o : Outcome) (old new : List ℕ) (unused : Type 0) (log emptied : Option (List LogEntry)) (d : DeviceNow)
-    → emptied ≡ option_map (λ l. []) log → Job (Begins plan) (Holds h rs rest) o old new ⊥ emptied d → Job (Begins plan) (Holds h rs rest) o old new unused log d
-set_up_first plan h rs rest o old new unused log emptied d is job =
-    let front : ServesFront (Begins plan) (Holds h rs rest) emptied d → ServesFront (Begins plan) (Holds h rs rest) log d = λ s.
-    (s.0, served_before plan (take s.0 (entries_from plan 0 rs)) log emptied d is s.1) in
-    record {
-      n = job.n;
-      within = job.within;
-      counts = job.counts;
-      written = job.written;
-      device = elim job.device [ inl none ↦ absurd none | inr served ↦ inr (front served) ];
-      stalled = λ x. front (job.stalled x);
-      decided = λ x.
-          let w = job.decided x in
-          record {
-            ending = w.ending;
-            records = w.records;
-            header = w.header;
-            device = served_before plan (entries_from plan 0 rs) log emptied d is w.device;
-          };
-    }
+-- The first of the devices was set up, which emptied its log, and then a run went through it alone.
+module _ (s : Settings) (h : Header) (rs : List Rec) (rest : Rest) (o : Outcome) (old new : List ℕ) (unused : Type 0) (b e d : DeviceNow) (bs ds : List DeviceNow) where
+  pub set_up_first : e.log ≡ option_map (λ l. []) b.log → Job (Begins s) (Holds h rs rest) o old new ⊥ (e ∷ []) (d ∷ [])
+      → Job (Begins s) (Holds h rs rest) o old new unused (b ∷ bs) (d ∷ ds)
+  set_up_first is job =
+      let front : ServesFront (Begins s) (Holds h rs rest) (e ∷ []) (d ∷ []) → ServesFront (Begins s) (Holds h rs rest) (b ∷ bs) (d ∷ ds) = λ each.
+      let one = each 0 (omega arith) in
+      first_taken s h rs rest o old old new (b ∷ bs) (d ∷ ds) one.0 (served_before s.plan (take one.0 (entries_from s.plan 0 rs)) b.log e.log d is one.1) in
+      record {
+        n = job.n;
+        within = job.within;
+        counts = job.counts;
+        written = job.written;
+        devices = elim job.devices [ inl none ↦ absurd none | inr served ↦ inr (front served) ];
+        stalled = λ x. ((job.stalled x).0, front (job.stalled x).1);
+        decided = λ x.
+            let w = job.decided x in
+            record {
+              ending = w.ending;
+              records = w.records;
+              header = w.header;
+              devices = all_taken s h rs rest o old old new (b ∷ bs) (d ∷ ds) (served_before s.plan (entries_from s.plan 0 rs) b.log e.log d is (w.devices 0 (omega arith)));
+            };
+      }
+
+-- the same, where the devices stand in a list
+pub set_up_in : {D : Type 0} (f : D → DeviceNow) (s : Settings) (h : Header) (rs : List Rec) (rest : Rest) (o : Outcome) (old new : List ℕ) (xs : List D) (x mid d : D) → 0 < length xs
+    → (f mid).log ≡ option_map (λ l. []) (f (get_or xs 0 x)).log → Job (Begins s) (Holds h rs rest) o old new ⊥ (f mid ∷ []) (f d ∷ [])
+    → Job (Begins s) (Holds h rs rest) o old new (set xs 0 d ≡ xs) (map f xs) (map f (set xs 0 d))
+set_up_in f s h rs rest o old new [] x mid d some emptied job = absurd (omega (arith, some))
+set_up_in f s h rs rest o old new (y ∷ ys) x mid d some emptied job =
+    set_up_first s h rs rest o old new _ (f y) (f mid) (f d) (map f ys) (map f ys) emptied job
 
 -- ---- a run that ended before the capture was read
 
 not_yet : (start : Start) (reading : Reading) (old : List ℕ) → AppendsUpto start reading 0 old old
-not_yet (Begins plan) (Holds h rs rest) old = nothing_front plan h rs rest old old 0 refl refl
-not_yet (Begins plan) (NoHeader at cause) old = record { k = 0; front = sym (append-nil old); whole = inl refl; no_more = inl refl }
+not_yet (Begins s) (Holds h rs rest) old = nothing_front s h rs rest old old 0 refl refl
+not_yet (Begins s) (NoHeader at cause) old = record { k = 0; front = sym (append-nil old); whole = inl refl; no_more = inl refl }
 not_yet (Stops e) reading old = record { k = 0; front = sym (append-nil old); whole = inl refl; no_more = inl refl }
 
 stopped_written : (e : Ending) (start : Start) (reading : Reading) (old : List ℕ) → (IsDecided e → start ≡ Stops e) → IsWritten e start reading 0 old old
@@ -343,15 +401,15 @@ stopped_written (Capture at cause) start reading old is = let same : start ≡ S
 stopped_written (Sessions line kind) start reading old is = let same : start ≡ Stops (Sessions line kind) = is tt in rw same (sym (append-nil old))
 stopped_written (TooLarge value) start reading old is = let same : start ≡ Stops (TooLarge value) = is tt in rw same (sym (append-nil old))
 
-pub not_begun : (e : Ending) (start : Start) (reading : Reading) (o : Outcome) (old : List ℕ) (unused : Type 0) (log : Option (List LogEntry)) (d : DeviceNow)
+pub not_begun : (e : Ending) (start : Start) (reading : Reading) (o : Outcome) (old : List ℕ) (unused : Type 0) (before now : List DeviceNow)
     → (IsDecided e → start ≡ Stops e) → (e ≡ Stalled → ⊥) → o ≡ record { ending = e; counts = counts_of []; header = false } → unused
-    → Job start reading o old old unused log d
-not_begun e start reading o old unused log d is never same idle = rw same (record {
+    → Job start reading o old old unused before now
+not_begun e start reading o old unused before now is never same idle = rw same (record {
   n = 0;
   within = omega arith;
   counts = refl;
   written = stopped_written e start reading old is;
-  device = inl idle;
+  devices = inl idle;
   stalled = λ x. absurd (never x);
-  decided = λ x. let stops = is x in rw stops (record { ending = refl; records = refl; header = refl; device = tt });
+  decided = λ x. let stops = is x in rw stops (record { ending = refl; records = refl; header = refl; devices = tt });
 })

@@ -1,5 +1,6 @@
 pub mod Start
 pub mod Written
+pub mod Devices
 pub mod Report
 pub mod Ran
 pub mod LineText

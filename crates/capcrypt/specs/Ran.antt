@@ -1,9 +1,7 @@
 -- What a run did.
-use Rattle.std.specs.Prelude.{◌≡◌, ◌≤◌, ◌<◌, ◌+◌, ◌*◌, ◌⊎◌, ◌++◌, ℕ, List, [], ◌∷◌, length, take, Option, option_map}
+use Rattle.std.specs.Prelude.{◌≡◌, ◌≤◌, ◌<◌, ◌+◌, ◌⊎◌, ◌++◌, ℕ, true, List, length, take, Option, option_map}
 use Rattle.crypto_model.specs.Counts.{capped}
-use Rattle.crypto_model.specs.Process.{Transform}
 use Rattle.dev_core.specs.declared.driver.LogEntry.{LogEntry}
-use Rattle.dev_core.specs.declared.stats.Stats.{Stats}
 use Rattle.capture_io.specs.declared.header.ReadStop.{ReadStop}
 use Rattle.capture_io.specs.declared.header.ReadStop.TheVariants.{Fault, BadCapture, OutOfMemory}
 use Rattle.capture_io.specs.Capture.{Reading, NoHeader, Holds}
@@ -14,7 +12,8 @@ use Rattle.packet_flow.specs.declared.flow.FlowEnd.TheVariants as flow
 use Rattle.packet_flow.specs.Entries.{entries_from}
 use Rattle.capcrypt.specs.declared.ending.Outcome.{Outcome}
 use Rattle.capcrypt.specs.declared.ending.Ending.{Ending}
-use Rattle.capcrypt.specs.declared.ending.Ending.TheVariants.{Done, Memory, Capture, ReadFault, WriteFault, Stalled, TooLarge}
+use Rattle.capcrypt.specs.declared.ending.Ending.TheVariants.{Done, Memory, Usage, Vdev, Capture, Sessions, ReadFault, WriteFault, Stalled, TooLarge}
+use Rattle.capcrypt.specs.Devices.{DeviceNow, workers, at, operations_of}
 use Rattle.capcrypt.specs.Start.{Start, Begins, Stops}
 use Rattle.capcrypt.specs.Written.{answers_of, counts_upto, written_of, written_upto, ending_of, reads_header}
 use Rattle.capcrypt.specs.Report.{number_of, report_of}
@@ -40,6 +39,13 @@ IsDecided WriteFault = ⊥
 IsDecided Stalled = ⊥
 IsDecided _ = Unit {0}
 
+-- an ending behind the reading of the words and of the session text
+abbrev pub IsLate : Ending → Type 0
+IsLate Usage = ⊥
+IsLate (Vdev at) = ⊥
+IsLate (Sessions line kind) = ⊥
+IsLate _ = Unit {0}
+
 -- `new` is `old` with a front of these bytes at its end
 abbrev pub AppendsFront : List ℕ → List ℕ → List ℕ → Type 0
 AppendsFront old new bytes = (k : ℕ) × (new ≡ old ++ take k bytes)
@@ -63,22 +69,6 @@ IsWritten ReadFault start reading n old new = AppendsRecords start reading n old
 IsWritten Stalled start reading n old new = AppendsRecords start reading n old new
 IsWritten _ start reading n old new = new ≡ old ++ written_of start reading
 
--- a device, as far as a run speaks of it
-pub record DeviceNow : Type 0 where
-  pub depth : ℕ
-  pub sessions : List (List Transform)
-  pub enqueued : ℕ
-  pub log : Option (List LogEntry)
-
--- a device in this state, by the members of its bounds
-abbrev pub device_now : {D : Type 0} → (D → ℕ) → (D → List (List Transform)) → (D → Stats) → (D → Option (List LogEntry)) → D → DeviceNow
-device_now limit sessions stats log d = record { depth = limit d; sessions = sessions d; enqueued = (stats d).enqueued; log = log d }
-
--- Between two counts of a device's stalls are as many as a run suffers: 4,096, and as many for each operation taken. A
--- count that stands still at its last value is such a one.
-abbrev pub HasStalledOut : ℕ → ℕ → ℕ → Type 0
-HasStalledOut before enqueued now = capped (before + 4096 * (1 + enqueued)) ≤ now
-
 -- This run has set the device up for the plan, and it has taken these operations since. Its log, where it tells one,
 -- is the list of them.
 pub record HasServed (plan : Plan) (taken : List LogEntry) (before : Option (List LogEntry)) (d : DeviceNow) : Type 0 where
@@ -87,39 +77,40 @@ pub record HasServed (plan : Plan) (taken : List LogEntry) (before : Option (Lis
   pub enqueued : d.enqueued ≡ capped (length taken)
   pub log : d.log ≡ option_map (λ l. taken) before
 
--- The device has taken the first of the operations that the plan makes of the records.
-abbrev pub ServesFront : Start → Reading → Option (List LogEntry) → DeviceNow → Type 0
-ServesFront (Begins plan) (Holds h rs rest) log d = (k : ℕ) × HasServed plan (take k (entries_from plan 0 rs)) log d
-ServesFront (Begins plan) (NoHeader at cause) log d = ⊥
-ServesFront (Stops e) reading log d = ⊥
+-- Each used device has taken the first of the operations that the plan makes of the records.
+abbrev pub ServesFront : Start → Reading → List DeviceNow → List DeviceNow → Type 0
+ServesFront (Begins s) (Holds h rs rest) before now =
+    (i : ℕ) → i < workers → (k : ℕ) × HasServed s.plan (take k (entries_from s.plan 0 rs)) (at before i).log (at now i)
+ServesFront (Begins s) (NoHeader at cause) before now = ⊥
+ServesFront (Stops e) reading before now = ⊥
 
 -- It has taken all of them.
-abbrev pub ServesWhole : Start → Reading → Option (List LogEntry) → DeviceNow → Type 0
-ServesWhole (Begins plan) (Holds h rs rest) log d = HasServed plan (entries_from plan 0 rs) log d
-ServesWhole (Begins plan) (NoHeader at cause) log d = Unit {0}
-ServesWhole (Stops e) reading log d = Unit {0}
+abbrev pub ServesWhole : Start → Reading → List DeviceNow → List DeviceNow → Type 0
+ServesWhole (Begins s) (Holds h rs rest) before now = (i : ℕ) → i < workers → HasServed s.plan (entries_from s.plan 0 rs) (at before i).log (at now i)
+ServesWhole (Begins s) (NoHeader at cause) before now = Unit {0}
+ServesWhole (Stops e) reading before now = Unit {0}
 
 -- All that the words and the capture say was done.
-pub record IsWhole (start : Start) (reading : Reading) (n : ℕ) (o : Outcome) (log : Option (List LogEntry)) (d : DeviceNow) : Type 0 where
+pub record IsWhole (start : Start) (reading : Reading) (n : ℕ) (o : Outcome) (before now : List DeviceNow) : Type 0 where
   pub ending : o.ending ≡ ending_of start reading
   pub records : n ≡ length (answers_of start reading)
   pub header : o.header ≡ reads_header start reading
-  pub device : ServesWhole start reading log d
+  pub devices : ServesWhole start reading before now
 
--- A run but for its report, which wrote n records whole. Device 0 is as it was (`unused`), or has served.
-pub record Job (start : Start) (reading : Reading) (o : Outcome) (old new : List ℕ) (unused : Type 0) (log : Option (List LogEntry)) (d : DeviceNow) : Type 0 where
+-- A run but for its report, which wrote n records whole. The devices are as they were (`unused`), or have served.
+pub record Job (start : Start) (reading : Reading) (o : Outcome) (old new : List ℕ) (unused : Type 0) (before now : List DeviceNow) : Type 0 where
   pub n : ℕ
   pub within : n ≤ length (answers_of start reading)
   pub counts : o.counts ≡ counts_upto start reading n
   pub written : IsWritten o.ending start reading n old new
-  pub device : unused ⊎ ServesFront start reading log d
-  pub stalled : o.ending ≡ Stalled → ServesFront start reading log d
-  pub decided : IsDecided o.ending → IsWhole start reading n o log d
+  pub devices : unused ⊎ ServesFront start reading before now
+  pub stalled : o.ending ≡ Stalled → (o.header ≡ true) × ServesFront start reading before now
+  pub decided : IsDecided o.ending → IsWhole start reading n o before now
 
 -- The same with the report: the status is that of the outcome that the report tells, or the report failed.
-pub record Ran (start : Start) (reading : Reading) (status : ℕ) (old new : List ℕ) (unused : Type 0) (log : Option (List LogEntry)) (d : DeviceNow)
+pub record Ran (start : Start) (reading : Reading) (status : ℕ) (old new : List ℕ) (unused : Type 0) (before now : List DeviceNow)
     (report_old report_new : List ℕ) (report_rose : Type 0) : Type 0 where
   pub outcome : Outcome
-  pub job : Job start reading outcome old new unused log d
-  pub reported : ((status ≡ number_of outcome.ending) × (report_new ≡ report_old ++ report_of outcome (d.enqueued ∷ [])))
-      ⊎ ((status ≡ 6) × report_rose × AppendsFront report_old report_new (report_of outcome (d.enqueued ∷ [])))
+  pub job : Job start reading outcome old new unused before now
+  pub reported : ((status ≡ number_of outcome.ending) × (report_new ≡ report_old ++ report_of outcome (operations_of now)))
+      ⊎ ((status ≡ 6) × report_rose × AppendsFront report_old report_new (report_of outcome (operations_of now)))

@@ -16,8 +16,8 @@ raised h = record { big = h.big; nanos = h.nanos; zone = h.zone; sigfigs = h.sig
 
 -- the records of a whole run, answered
 abbrev pub answers_of : Start → Reading → List Answered
-answers_of (Begins plan) (Holds h rs rest) = answered_from plan 0 rs
-answers_of (Begins plan) (NoHeader at cause) = []
+answers_of (Begins s) (Holds h rs rest) = answered_from s.plan 0 rs
+answers_of (Begins s) (NoHeader at cause) = []
 answers_of (Stops e) reading = []
 
 -- the header, and these records
@@ -26,14 +26,14 @@ capture_bytes h answers = header_bytes (raised h) ++ flat_map (answer_bytes h.bi
 
 -- what is written up to n records
 abbrev pub written_upto : Start → Reading → ℕ → List ℕ
-written_upto (Begins plan) (Holds h rs rest) n = capture_bytes h (take n (answers_of (Begins plan) (Holds h rs rest)))
-written_upto (Begins plan) (NoHeader at cause) n = []
+written_upto (Begins s) (Holds h rs rest) n = capture_bytes h (take n (answers_of (Begins s) (Holds h rs rest)))
+written_upto (Begins s) (NoHeader at cause) n = []
 written_upto (Stops e) reading n = []
 
 -- what a whole run writes
 abbrev pub written_of : Start → Reading → List ℕ
-written_of (Begins plan) (Holds h rs rest) = capture_bytes h (answers_of (Begins plan) (Holds h rs rest))
-written_of (Begins plan) (NoHeader at cause) = []
+written_of (Begins s) (Holds h rs rest) = capture_bytes h (answers_of (Begins s) (Holds h rs rest))
+written_of (Begins s) (NoHeader at cause) = []
 written_of (Stops e) reading = []
 
 -- the counts of the first n records
@@ -48,10 +48,10 @@ ending_at (Large value) = TooLarge value
 -- how a run ends where nothing outside fails
 abbrev pub ending_of : Start → Reading → Ending
 ending_of (Stops e) reading = e
-ending_of (Begins plan) (NoHeader at cause) = Capture at cause
-ending_of (Begins plan) (Holds h rs rest) = ending_at rest
+ending_of (Begins s) (NoHeader at cause) = Capture at cause
+ending_of (Begins s) (Holds h rs rest) = ending_at rest
 
 abbrev pub reads_header : Start → Reading → Bool
-reads_header (Begins plan) (Holds h rs rest) = true
-reads_header (Begins plan) (NoHeader at cause) = false
+reads_header (Begins s) (Holds h rs rest) = true
+reads_header (Begins s) (NoHeader at cause) = false
 reads_header (Stops e) reading = false

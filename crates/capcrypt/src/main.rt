@@ -16,32 +16,45 @@ mod start;
 mod top;
 mod work;
 
-use anyhow::Result;
 use capture_io::{MemSource, Source, StdSink, StdSource};
 use command_words::sessions_path;
+use crypto_model::OutOfMemory;
 use crypto_op::Card;
 pub use ending::{Ending, Outcome};
+use report::write_report;
 use std::alloc::Global;
 use std::env;
 use std::fs::File;
-use std::io::{BufReader, BufWriter};
+use std::io::{BufReader, BufWriter, ErrorKind};
+use std::os::fd::AsRawFd;
 use std::process::ExitCode;
 use sym_engine::PlainDriver;
 pub use top::{Done, run};
+use work::without_packets;
 
 const BUFFER: usize = 65_536;
 
 const DEVICES: usize = 8;
 
-fn words(rt: &HostRuntime, alloc: Global) -> Result<Vec<String>> {
+// Arguments that the machine can't give as text are taken as no words.
+fn words(rt: &HostRuntime, alloc: Global) -> Result<Vec<String>, OutOfMemory> {
     let mut words = Vec::new(alloc);
-    for word in env::args(rt)?.skip(1) {
-        words.push(word)?;
+    match env::args(rt) {
+        Ok(args) => {
+            for word in args.skip(1) {
+                words.push(word)?;
+            }
+        }
+        Err(error) => {
+            if error.kind() == ErrorKind::OutOfMemory {
+                return Err(OutOfMemory);
+            }
+        }
     }
     Ok(words)
 }
 
-fn devices(alloc: Global) -> Result<Vec<PlainDriver<Card>>>
+fn devices(alloc: Global) -> Result<Vec<PlainDriver<Card>>, OutOfMemory>
     ensures count { IfOk result (λ v. length v.items ≡ 8) }
     ensures idle { IfOk result (λ v. All (λ d. held_of d ≡ []) v.items) }
 {
@@ -52,20 +65,29 @@ fn devices(alloc: Global) -> Result<Vec<PlainDriver<Card>>>
     Ok(devs)
 }
 
-fn run_with<T: Source>(
+// A source whose first read fails.
+fn missing(alloc: Global) -> Result<MemSource, OutOfMemory> {
+    let fails = Vec::from_slice(alloc, &[0])?;
+    Ok(MemSource::new(Vec::new(alloc), 1, fails))
+}
+
+fn run_with<S: Source, T: Source>(
     rt: &HostRuntime,
     alloc: Global,
     words: &[String],
+    capture: &mut S,
     sessions: &mut T,
-) -> Result<u8> {
-    let mut capture = StdSource::new(BufReader::with_capacity(alloc, BUFFER, rt.stdin())?);
-    let mut out = StdSink::new(BufWriter::with_capacity(alloc, BUFFER, rt.stdout())?);
+) -> Result<u8, OutOfMemory> {
+    let Ok(out) = BufWriter::with_capacity(alloc, BUFFER, rt.stdout()) else {
+        return Err(OutOfMemory);
+    };
+    let mut out = StdSink::new(out);
     let mut report = StdSink::new(rt.stderr());
     let devs = devices(alloc)?;
     let done = run(
         alloc,
         words,
-        &mut capture,
+        capture,
         sessions,
         &mut out,
         &mut report,
@@ -75,27 +97,44 @@ fn run_with<T: Source>(
 }
 
 // A session file that can't be opened is a source whose first read fails.
-fn status(rt: &HostRuntime) -> Result<u8> {
+fn status(rt: &HostRuntime) -> Result<u8, OutOfMemory> {
     let alloc = rt.alloc();
     let words = words(rt, alloc)?;
+    let Ok(input) = BufReader::with_capacity(alloc, BUFFER, rt.stdin()) else {
+        return Err(OutOfMemory);
+    };
+    let mut capture = StdSource::new(input);
     let Some(path) = sessions_path(alloc, &words)? else {
         let mut none = MemSource::new(Vec::new(alloc), 1, Vec::new(alloc));
-        return run_with(rt, alloc, &words, &mut none);
+        return run_with(rt, alloc, &words, &mut capture, &mut none);
     };
-    match File::open(rt, &path) {
-        Ok(file) => run_with(rt, alloc, &words, &mut StdSource::new(file)),
-        Err(_) => {
-            let mut missing = MemSource::new(Vec::new(alloc), 1, Vec::from_slice(alloc, &[0])?);
-            run_with(rt, alloc, &words, &mut missing)
-        }
+    let Ok(file) = File::open(rt, &path) else {
+        return run_with(rt, alloc, &words, &mut capture, &mut missing(alloc)?);
+    };
+    // Where standard input is closed, its number goes to the first file that is opened.
+    let is_closed = file.as_raw_fd() == rt.stdin().as_raw_fd();
+    let mut sessions = StdSource::new(file);
+    if is_closed {
+        run_with(rt, alloc, &words, &mut missing(alloc)?, &mut sessions)
+    } else {
+        run_with(rt, alloc, &words, &mut capture, &mut sessions)
+    }
+}
+
+// The report where memory was wanting before the run, which takes none.
+fn told_at_once(rt: &HostRuntime) -> u8 {
+    let outcome = without_packets(Ending::Memory, false);
+    match write_report(&mut StdSink::new(rt.stderr()), &outcome, &[]) {
+        Ok(()) => 1,
+        Err(_) => 6,
     }
 }
 
 fn main(rt: HostRuntime) -> ExitCode {
-    match status(&rt) {
-        Ok(status) => ExitCode::from(status),
-        Err(_) => ExitCode::from(1),
-    }
+    ExitCode::from(match status(&rt) {
+        Ok(status) => status,
+        Err(_) => told_at_once(&rt),
+    })
 }
 
 #[cfg(test)]

@@ -1,5 +1,5 @@
 //! What a run tells.
-ghost use Rattle.std.specs.Prelude.{◌≡◌, ◌+◌, ◌*◌, ◌≤◌, ◌<◌, ◌++◌, ℕ, List, [], length, take, drop, codes, decimal, OnOk, OnErr, if◌then◌else◌, true, ◌∷◌};
+ghost use Rattle.std.specs.Prelude.{◌≡◌, ◌≤◌, ◌++◌, length, codes, decimal, OnOk, OnErr};
 ghost use Rattle.crypto_model.specs.Counts.{Rose};
 ghost use Rattle.capcrypt.specs.Report.{cause_name, last_line, first_line, device_lines, is_counted, listed, report_of};
 ghost use Rattle.capcrypt.specs.Ran.{AppendsFront};
@@ -96,6 +96,7 @@ fn write_devices<E: Sink>(report: &mut E, devices: &[u64]) -> Result<(), WriteFa
     ensures fault { E.tells → OnErr result (AppendsFront (E.written report.old) (E.written report.new) (device_lines 0 devices.now)) }
     ensures later { E.faults report.old ≤ E.faults report.new }
     ensures cause { OnErr result (Rose (E.faults report.old) (E.faults report.new)) }
+    ensures steady { E.steady → OnOk result (E.faults report.new ≡ E.faults report.old) }
 {
     for (i, operations) in devices.iter().enumerate() {
         write_all(report, line_of_device(i as u64, *operations).text())?;
@@ -108,6 +109,7 @@ fn write_counts<E: Sink>(report: &mut E, counts: &Counts, devices: &[u64]) -> Re
     ensures fault { E.tells → OnErr result (AppendsFront (E.written report.old) (E.written report.new) (first_line counts.now ++ device_lines 0 devices.now)) }
     ensures later { E.faults report.old ≤ E.faults report.new }
     ensures cause { OnErr result (Rose (E.faults report.old) (E.faults report.new)) }
+    ensures steady { E.steady → OnOk result (E.faults report.new ≡ E.faults report.old) }
 {
     write_all(report, line_of_counts(counts).text())?;
     write_devices(report, devices)
@@ -123,6 +125,7 @@ fn write_listed<E: Sink>(
     ensures fault { E.tells → OnErr result (AppendsFront (E.written report.old) (E.written report.new) (listed outcome.now devices.now)) }
     ensures later { E.faults report.old ≤ E.faults report.new }
     ensures cause { OnErr result (Rose (E.faults report.old) (E.faults report.new)) }
+    ensures steady { E.steady → OnOk result (E.faults report.new ≡ E.faults report.old) }
 {
     if outcome.header && is_counted(&outcome.ending) {
         write_counts(report, &outcome.counts, devices)
@@ -141,6 +144,7 @@ pub(crate) fn write_report<E: Sink>(
     ensures fault { E.tells → OnErr result (AppendsFront (E.written report.old) (E.written report.new) (report_of outcome.now devices.now)) }
     ensures later { E.faults report.old ≤ E.faults report.new }
     ensures cause { OnErr result (Rose (E.faults report.old) (E.faults report.new)) }
+    ensures steady { E.steady → OnOk result (E.faults report.new ≡ E.faults report.old) }
 {
     write_listed(report, outcome, devices)?;
     write_all(report, line_of_ending(&outcome.ending).text())?;

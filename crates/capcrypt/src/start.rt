@@ -1,9 +1,9 @@
 //! What the words and the session source ask for.
-ghost use Rattle.std.specs.Prelude.{◌≡◌, ◌≤◌, length, map, string_bytes, Err, IfOk, IfErr};
+ghost use Rattle.std.specs.Prelude.{◌≡◌, ◌≤◌, ℕ, length, map, string_bytes, Some, Err, IfOk, IfErr};
 ghost use Rattle.crypto_model.specs.Counts.{Rose};
 ghost use Rattle.session_file.specs.Sound.{IsSound};
 ghost use Rattle.command_words.specs.Asked.{asked};
-ghost use Rattle.capcrypt.specs.Start.{Begins, LeavesSessions, Stops, start_of, start_with};
+ghost use Rattle.capcrypt.specs.Start.{Begins, LeavesSessions, Stops, burst_asked, settings_of, start_with, started};
 ghost use Rattle.capcrypt.specs.Ran.{IsDecided};
 
 use crate::ending::Ending;
@@ -25,9 +25,9 @@ pub(crate) struct Task {
 
 // The plan of the session source.
 fn plan_in<T: Source>(alloc: Global, sessions: &mut T) -> Result<Plan, Ending>
-    ensures plan { T.tells → IfOk result (λ plan. start_with (T.left sessions.old) ≡ Begins plan) }
+    ensures plan { T.tells → IfOk result (λ plan. (burst : ℕ) → start_with burst (T.left sessions.old) ≡ Begins (record { plan = plan; burst = burst })) }
     ensures sound { IfOk result IsSound }
-    ensures stops { T.tells → IfErr result (λ e. IsDecided e → start_with (T.left sessions.old) ≡ Stops e) }
+    ensures stops { T.tells → IfErr result (λ e. IsDecided e → (burst : ℕ) → start_with burst (T.left sessions.old) ≡ Stops e) }
     ensures never { ¬ (result ≡ Err Ending.WriteFault) × ¬ (result ≡ Err Ending.Stalled) × ¬ (result ≡ Err Ending.Done) }
     ensures later { T.faults sessions.old ≤ T.faults sessions.new }
     ensures cause { result ≡ Err Ending.ReadFault → Rose (T.faults sessions.old) (T.faults sessions.new) }
@@ -53,9 +53,10 @@ pub(crate) fn begin<T: Source>(
     devices: usize,
     sessions: &mut T,
 ) -> Result<Task, Ending>
-    ensures task { T.tells → IfOk result (λ t. start_of (asked (map string_bytes words.now) devices) (T.left sessions.old) ≡ Begins t.plan) }
-    ensures burst { IfOk result (λ t. (1 ≤ t.burst) × (t.burst ≤ 256)) }
-    ensures stops { T.tells → IfErr result (λ e. IsDecided e → start_of (asked (map string_bytes words.now) devices) (T.left sessions.old) ≡ Stops e) }
+    ensures task { T.tells → IfOk result (λ t. started (map string_bytes words.now) devices (T.left sessions.old) ≡ Begins (settings_of t)) }
+    ensures burst { IfOk result (λ t. burst_asked (asked (map string_bytes words.now) devices) ≡ Some t.burst) }
+    ensures range { IfOk result (λ t. (1 ≤ t.burst) × (t.burst ≤ 256)) }
+    ensures stops { T.tells → IfErr result (λ e. IsDecided e → started (map string_bytes words.now) devices (T.left sessions.old) ≡ Stops e) }
     ensures never { ¬ (result ≡ Err Ending.WriteFault) × ¬ (result ≡ Err Ending.Stalled) × ¬ (result ≡ Err Ending.Done) }
     ensures unread { LeavesSessions (asked (map string_bytes words.now) devices) → sessions.new ≡ sessions.old }
     ensures later { T.faults sessions.old ≤ T.faults sessions.new }

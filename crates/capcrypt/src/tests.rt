@@ -77,37 +77,115 @@ fn plain(alloc: Global) -> Result<Vec<PlainDriver<Card>>, OutOfMemory>
     Ok(devs)
 }
 
-// What a run in memory left: its status, how many operations its device took, and the bytes.
+// A sink in memory that counts its flushes, and the writes behind the last of them. Its flush fails where that is wished.
 #[derive(Drop)]
-struct Ended {
-    status: u8,
-    enqueued: u64,
-    out: MemSink,
-    report: MemSink,
+struct TestSink {
+    sink: MemSink,
+    flush_fails: bool,
+    flushes: u32,
+    unflushed: u32,
+    faults: u64,
 }
 
-// Runs over a capture, a session text and devices. The listed reads of the capture and of the text, and the listed
-// writes of the output fail.
+impl TestSink {
+    fn new(alloc: Global, writes: &[u32], flush_fails: bool) -> Result<TestSink, OutOfMemory> {
+        Ok(TestSink {
+            sink: MemSink::new(alloc, 300_000, Vec::from_slice(alloc, writes)?)?,
+            flush_fails,
+            flushes: 0,
+            unflushed: 0,
+            faults: 0,
+        })
+    }
+
+    fn bytes(&self) -> &[u8] {
+        self.sink.bytes()
+    }
+}
+
+impl Sink for TestSink {
+    ghost tells = { ⊥ };
+
+    ghost written = { λ _. [] };
+
+    ghost faults = { λ k. k.faults };
+
+    ghost steady = { Unit {0} };
+
+    fn write(&mut self, piece: &[u8]) -> Result<usize, WriteFault> {
+        self.unflushed = self.unflushed.saturating_add(1);
+        match self.sink.write(piece) {
+            Ok(n) => Ok(n),
+            Err(_) => {
+                self.faults = self.faults.saturating_add(1);
+                Err(WriteFault)
+            }
+        }
+    }
+
+    fn flush(&mut self) -> Result<(), WriteFault> {
+        self.flushes = self.flushes.saturating_add(1);
+        self.unflushed = 0;
+        if self.flush_fails {
+            self.faults = self.faults.saturating_add(1);
+            return Err(WriteFault);
+        }
+        Ok(())
+    }
+}
+
+// What fails in a run: reads of the capture and of the session text and writes of the output, by their numbers from 0, and
+// the flushes of the two sinks.
+#[derive(Clone, Copy)]
+struct Failing<'a> {
+    reads: &'a [u32],
+    text_reads: &'a [u32],
+    writes: &'a [u32],
+    flush_of_out: bool,
+    flush_of_report: bool,
+}
+
+const NOTHING: Failing<'static> = Failing {
+    reads: &[],
+    text_reads: &[],
+    writes: &[],
+    flush_of_out: false,
+    flush_of_report: false,
+};
+
+// What a run in memory left: its status, its devices, how many operations the first of them took, and the sinks.
+#[derive(Drop)]
+struct Ended<D> {
+    status: u8,
+    devs: Vec<D>,
+    enqueued: u64,
+    out: TestSink,
+    report: TestSink,
+}
+
+// Runs over a capture, a session text and devices.
 fn run_in_memory<D: Device<Card> + Drop>(
     alloc: Global,
     words: &[&str],
     text: &[u8],
     capture: Vec<u8>,
     piece: usize,
-    fails: [&[u32]; 3],
+    failing: Failing<'_>,
     devs: Vec<D>,
-) -> Result<Ended, Fail>
+) -> Result<Ended<D>, Fail>
     requires piece { 0 < piece }
-    requires some { length devs.items ≡ 1 }
+    requires some { 0 < length devs.items }
+    requires most { length devs.items ≤ 8 }
     requires idle { All (λ d. D.held d ≡ []) devs.items }
 {
-    let [reads, text_reads, writes] = fails;
     let words = words_of(alloc, words)?;
-    let mut capture = MemSource::new(capture, piece, Vec::from_slice(alloc, reads)?);
+    let reads = Vec::from_slice(alloc, failing.reads)?;
+    let mut capture = MemSource::new(capture, piece, reads);
     let text = Vec::from_slice(alloc, text)?;
-    let mut sessions = MemSource::new(text, 100, Vec::from_slice(alloc, text_reads)?);
-    let mut out = MemSink::new(alloc, 300_000, Vec::from_slice(alloc, writes)?)?;
-    let mut report = MemSink::new(alloc, 1000, Vec::new(alloc))?;
+    let text_reads = Vec::from_slice(alloc, failing.text_reads)?;
+    let mut sessions = MemSource::new(text, 100, text_reads);
+    let mut out = TestSink::new(alloc, failing.writes, failing.flush_of_out)?;
+    let mut report = TestSink::new(alloc, &[], failing.flush_of_report)?;
     let done = run(
         alloc,
         &words,
@@ -121,6 +199,7 @@ fn run_in_memory<D: Device<Card> + Drop>(
     let enqueued = Driver::<Card>::stats(device).enqueued;
     Ok(Ended {
         status: done.status,
+        devs: done.devs,
         enqueued,
         out,
         report,
@@ -132,11 +211,11 @@ fn quick(
     words: &[&str],
     capture: Vec<u8>,
     piece: usize,
-    fails: [&[u32]; 3],
-) -> Result<Ended, Fail>
+    failing: Failing<'_>,
+) -> Result<Ended<PlainDriver<Card>>, Fail>
     requires { 0 < piece }
 {
-    run_in_memory(alloc, words, &[], capture, piece, fails, plain(alloc)?)
+    run_in_memory(alloc, words, &[], capture, piece, failing, plain(alloc)?)
 }
 
 mod crypt;
@@ -146,7 +225,7 @@ mod devices;
 fn the_published_packet_is_encrypted(rt: HostRuntime) -> Result<(), Fail> {
     let alloc = rt.alloc();
     let capture = joined(alloc, &[&HEADER, &HEAD_OF_16, PLAIN])?;
-    let run = quick(alloc, &QUICK, capture, 7, [&[], &[], &[]])?;
+    let run = quick(alloc, &QUICK, capture, 7, NOTHING)?;
     assert_eq!(rt; run.status, 0);
     assert_eq!(rt; run.enqueued, 1);
     let written = joined(alloc, &[&RAISED, &HEAD_OF_16, &CIPHER])?;
@@ -171,7 +250,7 @@ fn expect(
     written: usize,
     last: &[u8],
 ) -> Result<(), Fail> {
-    let run = quick(alloc, words, joined(alloc, capture)?, 7, [&[], &[], &[]])?;
+    let run = quick(alloc, words, joined(alloc, capture)?, 7, NOTHING)?;
     assert_eq!(rt; run.status, status);
     assert_eq!(rt; run.out.bytes(), &RAISED[..written.min(24)]);
     let counts = if written == 0 {
@@ -250,7 +329,7 @@ fn a_capture_is_cut_anywhere(rt: HostRuntime) -> Result<(), Fail> {
             _ => 1000,
         };
         let bytes = Vec::from_slice(alloc, read.get(..length).ok_or("a length")?)?;
-        let run = quick(alloc, &QUICK, bytes, piece, [&[], &[], &[]])?;
+        let run = quick(alloc, &QUICK, bytes, piece, NOTHING)?;
         let (records, last) = cut_at(length);
         let counts = if length < 24 {
             String::new(alloc)
@@ -274,7 +353,11 @@ fn each_read_and_each_write_fails_in_turn(rt: HostRuntime) -> Result<(), Fail> {
     let (read, written) = two_records(alloc)?;
     for call in 0..32 {
         let bytes = Vec::from_slice(alloc, read.as_slice())?;
-        let run = quick(alloc, &QUICK, bytes, 7, [&[call], &[], &[]])?;
+        let failing = Failing {
+            reads: &[call],
+            ..NOTHING
+        };
+        let run = quick(alloc, &QUICK, bytes, 7, failing)?;
         // There are 4 reads for the header, 3 and 9 for each record, and one at the end.
         let (status, end) = match call {
             0..=3 => (5, 0),
@@ -286,7 +369,11 @@ fn each_read_and_each_write_fails_in_turn(rt: HostRuntime) -> Result<(), Fail> {
     }
     for (call, end) in [(0, 0), (1, 24), (2, 40), (3, 100), (4, 116), (5, 176)] {
         let bytes = Vec::from_slice(alloc, read.as_slice())?;
-        let run = quick(alloc, &QUICK, bytes, 7, [&[], &[], &[call]])?;
+        let failing = Failing {
+            writes: &[call],
+            ..NOTHING
+        };
+        let run = quick(alloc, &QUICK, bytes, 7, failing)?;
         let status = if end == 176 { 0 } else { 6 };
         assert_eq!(rt; run.status, status, "write {call}");
         assert_eq!(rt; run.out.bytes(), written.get(..end).ok_or("an end")?);
@@ -294,59 +381,23 @@ fn each_read_and_each_write_fails_in_turn(rt: HostRuntime) -> Result<(), Fail> {
     Ok(())
 }
 
-// A sink that counts its flushes, and the writes behind the last of them.
-#[derive(Drop)]
-struct FlushCounter {
-    flushes: u32,
-    unflushed: u32,
-}
-
-impl Sink for FlushCounter {
-    ghost tells = { ⊥ };
-
-    ghost written = { λ _. [] };
-
-    ghost faults = { λ _. 0 };
-
-    fn write(&mut self, piece: &[u8]) -> Result<usize, WriteFault> {
-        self.unflushed = self.unflushed.saturating_add(1);
-        Ok(piece.len())
-    }
-
-    fn flush(&mut self) -> Result<(), WriteFault> {
-        self.flushes = self.flushes.saturating_add(1);
-        self.unflushed = 0;
-        Ok(())
-    }
-}
-
 #[test]
 fn each_sink_is_flushed_once_behind_its_last_write(rt: HostRuntime) -> Result<(), Fail> {
     let alloc = rt.alloc();
-    let words = words_of(alloc, &QUICK)?;
-    let capture = joined(alloc, &[&HEADER, &HEAD_OF_16, PLAIN])?;
-    let mut capture = MemSource::new(capture, 100, Vec::new(alloc));
-    let mut sessions = MemSource::new(Vec::new(alloc), 1, Vec::new(alloc));
-    let mut out = FlushCounter {
-        flushes: 0,
-        unflushed: 0,
+    let out_fails = Failing {
+        flush_of_out: true,
+        ..NOTHING
     };
-    let mut report = FlushCounter {
-        flushes: 0,
-        unflushed: 0,
+    let report_fails = Failing {
+        flush_of_report: true,
+        ..NOTHING
     };
-    let devs = plain(alloc)?;
-    let done = run(
-        alloc,
-        &words,
-        &mut capture,
-        &mut sessions,
-        &mut out,
-        &mut report,
-        devs,
-    );
-    assert_eq!(rt; done.status, 0);
-    assert_eq!(rt; (out.flushes, out.unflushed), (1, 0));
-    assert_eq!(rt; (report.flushes, report.unflushed), (1, 0));
+    for (failing, status) in [(NOTHING, 0), (out_fails, 6), (report_fails, 6)] {
+        let capture = joined(alloc, &[&HEADER, &HEAD_OF_16, PLAIN])?;
+        let run = quick(alloc, &QUICK, capture, 100, failing)?;
+        assert_eq!(rt; run.status, status);
+        assert_eq!(rt; (run.out.flushes, run.out.unflushed), (1, 0));
+        assert_eq!(rt; (run.report.flushes, run.report.unflushed), (1, 0));
+    }
     Ok(())
 }

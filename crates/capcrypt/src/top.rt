@@ -1,18 +1,19 @@
 //! The top call.
-ghost use Rattle.std.specs.Prelude.{◌≡◌, ◌≤◌, ◌<◌, ◌+◌, ◌*◌, ◌⊎◌, List, [], length, map, drop, slice_index_or, All, string_bytes};
+ghost use Rattle.std.specs.Prelude.{◌≡◌, ◌≤◌, ◌<◌, ◌⊎◌, List, [], length, map, drop, All, string_bytes, Err};
 ghost use Rattle.crypto_model.specs.Counts.{Rose};
 ghost use Rattle.crypto_op.specs.declared.spec.Card.{Card};
 ghost use Rattle.capture_io.specs.Capture.{Reading, IsReading};
-ghost use Rattle.command_words.specs.Asked.{asked};
-ghost use Rattle.capcrypt.specs.Start.{LeavesSessions, start_of};
+ghost use Rattle.command_words.specs.Asked.{Fault, asked};
+ghost use Rattle.capcrypt.specs.Start.{LeavesSessions, Stops, started};
 ghost use Rattle.capcrypt.specs.Written.{ending_of};
 ghost use Rattle.capcrypt.specs.Report.{number_of};
-ghost use Rattle.capcrypt.specs.Ran.{HasStalledOut, Job, Ran, device_now};
+ghost use Rattle.capcrypt.specs.Devices.{HaveStalledOut, devices_now, operations_of};
+ghost use Rattle.capcrypt.specs.Ran.{IsLate, Job, Ran};
 
 use crate::ending::{Ending, Outcome, number};
 use crate::report::write_report;
 use crate::start::begin;
-use crate::work::{nothing, work};
+use crate::work::{process_capture, without_packets};
 use capture_io::{Sink, Source};
 use crypto_op::Card;
 use dev_core::Device;
@@ -27,30 +28,42 @@ pub struct Done<D> {
     pub helped: u64,
 }
 
-// A whole run through a device, but for its report.
-fn job<S: Source, T: Source, K: Sink, D: Device<Card>>(
+// A whole run, but for its report: by the words and the session text, and then by the capture.
+fn run_unreported<S: Source, T: Source, K: Sink, D: Device<Card>>(
     alloc: Global,
     words: &[String],
-    devices: usize,
     capture: &mut S,
     sessions: &mut T,
     out: &mut K,
-    dev: &mut D,
+    devs: &mut [D],
 ) -> Outcome
-    requires idle { D.held dev.old ≡ [] }
+    requires some { 0 < length devs.old }
+    requires idle { All (λ d. D.held d ≡ []) devs.old }
     ensures job { S.tells → T.tells → K.tells → (reading : Reading) → IsReading (S.left capture.old) reading
-        → Job (start_of (asked (map string_bytes words.now) devices) (T.left sessions.old)) reading result (K.written out.old) (K.written out.new) (dev.new ≡ dev.old) (D.log dev.old)
-        (device_now D.limit D.sessions D.stats D.log dev.new) }
-    ensures unread { LeavesSessions (asked (map string_bytes words.now) devices) → sessions.new ≡ sessions.old }
+        → let now = devices_now D.limit D.sessions D.held D.room D.stalls D.stats D.log
+        in Job (started (map string_bytes words.now) (length devs.old) (T.left sessions.old)) reading result (K.written out.old) (K.written out.new)
+        (devs.new ≡ devs.old) (now devs.old) (now devs.new) }
+    ensures count { length devs.new ≡ length devs.old }
+    ensures others { drop 1 devs.new ≡ drop 1 devs.old }
+    ensures unread { LeavesSessions (asked (map string_bytes words.now) (length devs.old)) → sessions.new ≡ sessions.old }
     ensures ended { S.tells → result.ending ≡ Ending.Done → S.left capture.new ≡ [] }
-    ensures stalled { result.ending ≡ Ending.Stalled → HasStalledOut (D.stalls dev.old) (D.stats dev.new).enqueued (D.stalls dev.new) }
-    ensures read_cause { result.ending ≡ Ending.ReadFault → Rose (S.faults capture.old) (S.faults capture.new) ⊎ Rose (T.faults sessions.old) (T.faults sessions.new) }
+    ensures stalled { result.ending ≡ Ending.Stalled
+        → let now = devices_now D.limit D.sessions D.held D.room D.stalls D.stats D.log in HaveStalledOut (now devs.old) (now devs.new) }
+
+    // Where the run ends before the capture is read, capture and output are as they were, and only the session source fails.
+    ensures refused { (fault : Fault) → asked (map string_bytes words.now) (length devs.old) ≡ Err fault → (capture.new ≡ capture.old) × (out.new ≡ out.old) }
+    ensures stopped { T.tells → (e : Ending) → started (map string_bytes words.now) (length devs.old) (T.left sessions.old) ≡ Stops e
+        → (capture.new ≡ capture.old) × (out.new ≡ out.old) × ¬ (result.ending ≡ Ending.WriteFault)
+        × (result.ending ≡ Ending.ReadFault → Rose (T.faults sessions.old) (T.faults sessions.new)) }
+    ensures early { IsLate result.ending ⊎ ((capture.new ≡ capture.old) × (out.new ≡ out.old)) }
+    ensures read_cause { result.ending ≡ Ending.ReadFault
+        → Rose (S.faults capture.old) (S.faults capture.new) ⊎ Rose (T.faults sessions.old) (T.faults sessions.new) }
     ensures write_later { K.faults out.old ≤ K.faults out.new }
     ensures write_cause { result.ending ≡ Ending.WriteFault → Rose (K.faults out.old) (K.faults out.new) }
 {
-    match begin(alloc, words, devices, sessions) {
-        Ok(task) => work(alloc, &task, capture, out, dev),
-        Err(ending) => nothing(ending, false),
+    match begin(alloc, words, devs.len(), sessions) {
+        Ok(task) => process_capture(alloc, &task, capture, out, devs),
+        Err(ending) => without_packets(ending, false),
     }
 }
 
@@ -76,36 +89,46 @@ pub fn run<S: Source, T: Source, K: Sink, E: Sink, D: Device<Card>>(
     requires most { length devs.items ≤ 8 }
     requires idle { All (λ d. D.held d ≡ []) devs.items }
 
-    // What was written, reported and done by device 0, and why.
-    ensures ran { S.tells → T.tells → K.tells → E.tells → (reading : Reading) → IsReading (S.left capture.old) reading → (d : D)
-        → Ran (start_of (asked (map string_bytes words.now) (length devs.items)) (T.left sessions.old)) reading result.status (K.written out.old) (K.written out.new)
-        (slice_index_or result.devs.items 0 d ≡ slice_index_or devs.items 0 d) (D.log (slice_index_or devs.items 0 d))
-        (device_now D.limit D.sessions D.stats D.log (slice_index_or result.devs.items 0 d))
+    // What was written, reported and done by the devices, and why.
+    ensures ran { S.tells → T.tells → K.tells → E.tells → (reading : Reading) → IsReading (S.left capture.old) reading
+        → let now = devices_now D.limit D.sessions D.held D.room D.stalls D.stats D.log
+        in Ran (started (map string_bytes words.now) (length devs.items) (T.left sessions.old)) reading result.status (K.written out.old) (K.written out.new)
+        (result.devs.items ≡ devs.items) (now devs.items) (now result.devs.items)
         (E.written report.old) (E.written report.new) (Rose (E.faults report.old) (E.faults report.new)) }
-    // The other devices are as they were, and so is the session source where the words don't ask for it.
+    // The devices behind the used ones are as they were, and so is the session source where the words don't ask for it.
     ensures devices { length result.devs.items ≡ length devs.items }
     ensures others { drop 1 result.devs.items ≡ drop 1 devs.items }
     ensures unread { LeavesSessions (asked (map string_bytes words.now) (length devs.items)) → sessions.new ≡ sessions.old }
     ensures helped { result.helped ≡ 0 }
     ensures whole { S.tells → result.status ≡ 0 → S.left capture.new ≡ [] }
 
-    // A fault is told only where a count rose, and a stall only where the device stalled as often as a run suffers it.
+    // Where the words or the session text end the run, capture and output are as they were, and no fault is theirs.
+    ensures refused { (fault : Fault) → asked (map string_bytes words.now) (length devs.items) ≡ Err fault
+        → (capture.new ≡ capture.old) × (out.new ≡ out.old) }
+    ensures stopped { T.tells → (e : Ending) → started (map string_bytes words.now) (length devs.items) (T.left sessions.old) ≡ Stops e
+        → (capture.new ≡ capture.old) × (out.new ≡ out.old) × (result.status ≡ 5 → Rose (T.faults sessions.old) (T.faults sessions.new))
+        × (result.status ≡ 6 → Rose (E.faults report.old) (E.faults report.new)) }
+    ensures early { (result.status ≡ 2) ⊎ (result.status ≡ 4) → (capture.new ≡ capture.old) × (out.new ≡ out.old) }
+
+    // A fault is told only where a count rose, and a stall only where the used devices stalled as often as a run suffers it.
     ensures read_cause { result.status ≡ 5 → Rose (S.faults capture.old) (S.faults capture.new) ⊎ Rose (T.faults sessions.old) (T.faults sessions.new) }
     ensures write_cause { result.status ≡ 6 → Rose (K.faults out.old) (K.faults out.new) ⊎ Rose (E.faults report.old) (E.faults report.new) }
-    ensures stall_cause { result.status ≡ 7 → (d : D) → HasStalledOut (D.stalls (slice_index_or devs.items 0 d)) (D.stats (slice_index_or result.devs.items 0 d)).enqueued (D.stalls (slice_index_or result.devs.items 0 d)) }
+    ensures stall_cause { result.status ≡ 7
+        → let now = devices_now D.limit D.sessions D.held D.room D.stalls D.stats D.log in HaveStalledOut (now devs.items) (now result.devs.items) }
+    // A write or a flush that failed is told.
+    ensures report_steady { E.steady → ¬ (result.status ≡ 6) → E.faults report.new ≡ E.faults report.old }
 
     // Where no count rose so far, words, session text and capture decide the status, or memory was wanting.
-    ensures complete { S.tells → T.tells → K.tells → E.tells → (reading : Reading) → IsReading (S.left capture.old) reading → (d : D)
+    ensures complete { S.tells → T.tells → K.tells → E.tells → (reading : Reading) → IsReading (S.left capture.old) reading
         → ¬ Rose (S.faults capture.old) (S.faults capture.new) → ¬ Rose (T.faults sessions.old) (T.faults sessions.new)
         → ¬ Rose (K.faults out.old) (K.faults out.new) → ¬ Rose (E.faults report.old) (E.faults report.new)
-        → ¬ HasStalledOut (D.stalls (slice_index_or devs.items 0 d)) (D.stats (slice_index_or result.devs.items 0 d)).enqueued (D.stalls (slice_index_or result.devs.items 0 d))
-        → (result.status ≡ 1) ⊎ (result.status ≡ number_of (ending_of (start_of (asked (map string_bytes words.now) (length devs.items)) (T.left sessions.old)) reading)) }
+        → (let now = devices_now D.limit D.sessions D.held D.room D.stalls D.stats D.log in ¬ HaveStalledOut (now devs.items) (now result.devs.items))
+        → (result.status ≡ 1)
+        ⊎ (result.status ≡ number_of (ending_of (started (map string_bytes words.now) (length devs.items) (T.left sessions.old)) reading)) }
 {
     let mut devs = devs;
-    let devices = devs.len();
-    let dev = &mut devs[0];
-    let outcome = job(alloc, words, devices, capture, sessions, out, dev);
-    let operations = dev.stats().enqueued;
+    let outcome = run_unreported(alloc, words, capture, sessions, out, &mut devs);
+    let operations = devs[0].stats().enqueued;
     let status = match write_report(report, &outcome, &[operations]) {
         Ok(()) => number(&outcome.ending),
         Err(_) => 6,

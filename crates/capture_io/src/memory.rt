@@ -142,6 +142,8 @@ impl Sink for MemSink {
 
     ghost faults = { write_faults };
 
+    ghost steady = { Unit {0} };
+
     fn write(&mut self, piece: &[u8]) -> Result<usize, WriteFault>
         requires { 0 < length piece.now }
         ensures within { IfOk result (λ n. n ≤ length piece.now) }

@@ -54,6 +54,9 @@ pub trait Sink {
     /// How many writes and flushes have failed: a count that stands still at the last value of a `u64`.
     ghost faults: { Self → ℕ };
 
+    /// Whether a write or a flush that is Ok leaves the count of faults as it was.
+    ghost steady: { Type 0 };
+
     /// Writes bytes from the front of a piece, and gives their number.
     fn write(&mut self, piece: &[u8]) -> Result<usize, WriteFault>
         requires { 0 < length piece.now }
@@ -62,11 +65,13 @@ pub trait Sink {
         ensures appended { tells → MatchResult result (λ n. written self.new ≡ written self.old ++ take n piece.now)
             (λ _. written self.new ≡ written self.old) }
         ensures later { faults self.old ≤ faults self.new }
-        ensures cause { OnErr result (Rose (faults self.old) (faults self.new)) };
+        ensures cause { OnErr result (Rose (faults self.old) (faults self.new)) }
+        ensures steady { steady → OnOk result (faults self.new ≡ faults self.old) };
 
     /// Passes on what waits in buffers.
     fn flush(&mut self) -> Result<(), WriteFault>
         ensures same { tells → written self.new ≡ written self.old }
         ensures later { faults self.old ≤ faults self.new }
-        ensures cause { OnErr result (Rose (faults self.old) (faults self.new)) };
+        ensures cause { OnErr result (Rose (faults self.old) (faults self.new)) }
+        ensures steady { steady → OnOk result (faults self.new ≡ faults self.old) };
 }

@@ -81,6 +81,8 @@ impl<W: Write> Sink for StdSink<W> {
 
     ghost faults = { λ k. std_write_faults k };
 
+    ghost steady = { Unit {0} };
+
     /// A write of 0 bytes is a fault too: the writer takes nothing more.
     fn write(&mut self, piece: &[u8]) -> Result<usize, WriteFault>
         requires { 0 < length piece.now }

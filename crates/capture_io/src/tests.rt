@@ -429,3 +429,24 @@ fn the_rest_is_left_at_a_stop(rt: HostRuntime) -> Result<(), Fail> {
     assert_eq!(rt; rest.as_slice(), [7, 8, 9, 10, 11].as_slice());
     Ok(())
 }
+
+fn sent<T: Send>(value: T) -> T {
+    value
+}
+
+#[test]
+fn what_is_kept_of_a_record_can_be_sent(rt: HostRuntime) -> Result<(), Fail> {
+    let alloc = rt.alloc();
+    let mut source = sent(MemSource::new(
+        Vec::from_slice(alloc, &CAPTURES[0].2)?,
+        7,
+        Vec::new(alloc),
+    ));
+    let header = sent(read_header(&mut source)?);
+    let mut place = Place { at: 24, records: 0 };
+    let mut store = FreshSegs::new(alloc);
+    let record = read_record(alloc, &mut source, &header, &mut place, &mut store)?;
+    assert_eq!(rt; sent(record).orig, 9);
+    assert_eq!(rt; sent(place).records, 1);
+    Ok(())
+}

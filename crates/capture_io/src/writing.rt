@@ -81,6 +81,7 @@ pub fn write_header<K: Sink>(sink: &mut K, header: &Header) -> Result<(), WriteF
     ensures fault { K.tells → OnErr result (AppendsPart (K.written sink.old) (K.written sink.new) (header_bytes header.now)) }
     ensures later { K.faults sink.old ≤ K.faults sink.new }
     ensures cause { OnErr result (Rose (K.faults sink.old) (K.faults sink.new)) }
+    ensures steady { K.steady → OnOk result (K.faults sink.new ≡ K.faults sink.old) }
 {
     write_all(sink, &spelled_header(header))
 }
@@ -90,6 +91,7 @@ fn write_segs<K: Sink>(sink: &mut K, segs: &SegList) -> Result<(), WriteFault>
     ensures fault { K.tells → OnErr result (AppendsPart (K.written sink.old) (K.written sink.new) (packet_of segs.now)) }
     ensures later { K.faults sink.old ≤ K.faults sink.new }
     ensures cause { OnErr result (Rose (K.faults sink.old) (K.faults sink.new)) }
+    ensures steady { K.steady → OnOk result (K.faults sink.new ≡ K.faults sink.old) }
 {
     for seg in segs.iter() {
         write_all(sink, seg.data())?;
@@ -103,6 +105,7 @@ pub fn write_record<K: Sink>(sink: &mut K, header: &Header, rec: &Record) -> Res
     ensures fault { K.tells → OnErr result (AppendsPart (K.written sink.old) (K.written sink.new) (record_bytes header.now.big (view rec.now))) }
     ensures later { K.faults sink.old ≤ K.faults sink.new }
     ensures cause { OnErr result (Rose (K.faults sink.old) (K.faults sink.new)) }
+    ensures steady { K.steady → OnOk result (K.faults sink.new ≡ K.faults sink.old) }
 {
     write_all(sink, &spelled_head(header.big, rec))?;
     write_segs(sink, rec.packet.segs())

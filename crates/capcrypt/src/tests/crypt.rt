@@ -1,10 +1,12 @@
 //! `crypt` through a plain device.
-use super::{Ended, HEAD_OF_16, HEAD_OF_60, HEADER, RAISED, joined, plain, run_in_memory};
+use super::{Ended, Failing, HEAD_OF_16, HEAD_OF_60, HEADER, NOTHING, RAISED, joined, plain, run_in_memory};
+use crypto_op::Card;
 use std::alloc::Global;
 use std::process::Abort;
 use std::test::Fail;
+use sym_engine::PlainDriver;
 
-const CRYPT: [&str; 7] = [
+pub(super) const CRYPT: [&str; 7] = [
     "crypt",
     "--vdev",
     "mode=round-robin,worker=plain",
@@ -20,6 +22,10 @@ pub(super) const SEALS: &[u8] =
 const OPENS: &[u8] =
     b"capcrypt 1\nsession s gcm decrypt 00000000000000000000000000000000 00000000 16 0\ndefault s 0\n";
 
+// Datagrams of UDP are sealed, and other packets pass.
+pub(super) const BY_RULE: &[u8] =
+    b"capcrypt 1\nsession a gcm encrypt 000102030405060708090a0b0c0d0e0f 00000001 16 14\nrule 23 11 a 14\ndefault pass\n";
+
 const HEAD_OF_32: [u8; 16] = [1, 0, 0, 0, 0, 0, 0, 0, 32, 0, 0, 0, 32, 0, 0, 0];
 
 // Sixteen zero bytes under the zero key and the zero IV, and their tag: test case 2 of the GCM specification.
@@ -32,11 +38,11 @@ fn crypt(
     alloc: Global,
     words: &[&str],
     text: &[u8],
-    fails: &[u32],
+    failing: Failing<'_>,
     capture: Vec<u8>,
-) -> Result<Ended, Fail> {
+) -> Result<Ended<PlainDriver<Card>>, Fail> {
     let devs = plain(alloc)?;
-    run_in_memory(alloc, words, text, capture, 1000, [&[], fails, &[]], devs)
+    run_in_memory(alloc, words, text, capture, 1000, failing, devs)
 }
 
 // One packet under a session text: the record that is written, and the counts of the report.
@@ -95,7 +101,7 @@ fn one_packet_is_sealed_opened_or_left(rt: HostRuntime) -> Result<(), Fail> {
     ];
     for (text, head, packet, written_head, written, counts) in cases {
         let capture = joined(alloc, &[&HEADER, head, packet])?;
-        let run = crypt(alloc, &CRYPT, text, &[], capture)?;
+        let run = crypt(alloc, &CRYPT, text, NOTHING, capture)?;
         let expected = joined(alloc, &[&RAISED, written_head, written])?;
         assert_eq!(rt; run.out.bytes(), expected.as_slice());
         let report = format!(in alloc; "packets=1 {counts}\nstatus=0\n")?;
@@ -104,19 +110,28 @@ fn one_packet_is_sealed_opened_or_left(rt: HostRuntime) -> Result<(), Fail> {
     Ok(())
 }
 
-// Expects that a run ends before the capture is read, with a report of this one line.
+// Expects that a run ends before the capture is read, with a report of this one line. Were the capture or the output
+// touched, that would fail.
 fn expect_at_once(
     rt: &impl Abort,
     alloc: Global,
     words: &[&str],
     text: &[u8],
-    fails: &[u32],
+    text_reads: &[u32],
     line: &str,
 ) -> Result<(), Fail> {
     let capture = joined(alloc, &[&HEADER, &HEAD_OF_16, &[0; 16]])?;
-    let run = crypt(alloc, words, text, fails, capture)?;
+    let failing = Failing {
+        reads: &[0],
+        text_reads,
+        writes: &[0],
+        flush_of_out: true,
+        flush_of_report: false,
+    };
+    let run = crypt(alloc, words, text, failing, capture)?;
     assert_eq!(rt; run.report.bytes(), line.as_bytes());
     assert!(rt; run.out.bytes().is_empty());
+    assert_eq!(rt; run.out.flushes, 0);
     assert_eq!(rt; run.enqueued, 0);
     Ok(())
 }
@@ -137,6 +152,8 @@ fn nothing_is_done_without_a_plan(rt: HostRuntime) -> Result<(), Fail> {
     let fault = "status=5 read fault\n";
     expect_at_once(&rt, alloc, &CRYPT, SEALS, &[0], fault)?;
     expect_at_once(&rt, alloc, &CRYPT, SEALS, &[1], fault)?;
+    let line = "status=4 sessions line=1 kind=1\n";
+    expect_at_once(&rt, alloc, &CRYPT, b"capcrypt 3", &[], line)?;
     let mut text = Vec::new(alloc);
     text.resize(1_048_576, b'\n')?;
     let line = "status=4 sessions line=1048577 kind=1\n";
@@ -189,41 +206,27 @@ fn faulty_session_texts_are_told(rt: HostRuntime) -> Result<(), Fail> {
             alloc,
             &CRYPT,
             text.as_bytes(),
-            &[],
+            NOTHING,
             joined(alloc, &[&HEADER])?,
         )?;
         let report = format!(in alloc; "status=4 sessions line={line} kind={kind}\n")?;
         assert_eq!(rt; run.report.bytes(), report.as_bytes());
         assert!(rt; run.out.bytes().is_empty());
     }
-    let run = crypt(
-        alloc,
-        &CRYPT,
-        b"capcrypt 3",
-        &[],
-        joined(alloc, &[&HEADER])?,
-    )?;
-    assert_eq!(rt;
-        run.report.bytes(),
-        b"status=4 sessions line=1 kind=1\n".as_slice()
-    );
     Ok(())
 }
 
 // The head of a record of this length, little-endian.
-fn head_of(length: u32) -> [u8; 16] {
+pub(super) fn head_of(length: u32) -> [u8; 16] {
     let mut head = [0; 16];
     head[8..12].copy_from_slice(&length.to_le_bytes());
     head[12..].copy_from_slice(&length.to_le_bytes());
     head
 }
 
-// Datagrams of UDP are sealed, and other packets pass.
 #[test]
 fn a_rule_chooses_among_usual_packets(rt: HostRuntime) -> Result<(), Fail> {
     let alloc = rt.alloc();
-    let text: &[u8] =
-        b"capcrypt 1\nsession a gcm encrypt 000102030405060708090a0b0c0d0e0f 00000001 16 14\nrule 23 11 a 14\ndefault pass\n";
     let mut capture = joined(alloc, &[&HEADER])?;
     for (length, protocol) in [(60, 17), (1514, 6), (98, 17), (342, 6)] {
         capture.extend_from_slice(&head_of(length))?;
@@ -231,7 +234,7 @@ fn a_rule_chooses_among_usual_packets(rt: HostRuntime) -> Result<(), Fail> {
             capture.push(if place == 23 { protocol } else { 0 })?;
         }
     }
-    let run = crypt(alloc, &CRYPT[..5], text, &[], capture)?;
+    let run = crypt(alloc, &CRYPT[..5], BY_RULE, NOTHING, capture)?;
     let report =
         b"packets=4 success=2 auth_failed=0 invalid_args=0 short=0 passed=2\ndevice 0 operations=2\nstatus=0\n";
     assert_eq!(rt; run.report.bytes(), report.as_slice());
@@ -251,7 +254,7 @@ fn the_longest_packet_is_sealed(rt: HostRuntime) -> Result<(), Fail> {
     let alloc = rt.alloc();
     let mut capture = joined(alloc, &[&HEADER, &head_of(262_144)])?;
     capture.resize(262_184, 0)?;
-    let run = crypt(alloc, &CRYPT, SEALS, &[], capture)?;
+    let run = crypt(alloc, &CRYPT, SEALS, NOTHING, capture)?;
     assert_eq!(rt; run.status, 0);
     assert_eq!(rt; run.enqueued, 1);
     assert_eq!(rt;

@@ -20,4 +20,5 @@ loop-i-preserved g c =
           ∙ append_assoc (g.E.Sink.written c.args.report.now) (device_lines 0 (take c.loop-i.i c.args.devices.now)) (device_line c.loop-i.i m)
           ∙ ap (λ (l : List ℕ). g.E.Sink.written c.args.report.now ++ l) (sym (lines_more c.args.devices.now c.loop-i.i m (omega arith) refl));
       later = omega (arith, c.loop-i.invariant.later, c.write_all.ensures.later);
+      steady = λ keeps. c.in_ok-write_all.ensures.steady keeps ∙ c.loop-i.invariant.steady keeps;
     }

@@ -73,6 +73,7 @@ fn advance<S: Source, K: Sink>(
     ensures read_cause { result ≡ Err (FlowEnd.Stopped ReadStop.Fault) → Rose (S.faults src.old) (S.faults src.new) }
     ensures write_later { K.faults out.old ≤ K.faults out.new }
     ensures write_cause { result ≡ Err FlowEnd.WriteFault → Rose (K.faults out.old) (K.faults out.new) }
+    ensures write_steady { K.steady → ¬ (result ≡ Err FlowEnd.WriteFault) → K.faults out.new ≡ K.faults out.old }
     ensures early { IfErr result IsEarly }
     ensures never { ¬ (result ≡ Err FlowEnd.Stalled) }
 {
@@ -128,6 +129,7 @@ pub(crate) fn fill<S: Source, K: Sink>(
     ensures read_cause { result ≡ Err (FlowEnd.Stopped ReadStop.Fault) → Rose (S.faults src.old) (S.faults src.new) }
     ensures write_later { K.faults out.old ≤ K.faults out.new }
     ensures write_cause { result ≡ Err FlowEnd.WriteFault → Rose (K.faults out.old) (K.faults out.new) }
+    ensures write_steady { K.steady → ¬ (result ≡ Err FlowEnd.WriteFault) → K.faults out.new ≡ K.faults out.old }
     ensures early { IfErr result IsEarly }
     ensures never { ¬ (result ≡ Err FlowEnd.Stalled) }
 {

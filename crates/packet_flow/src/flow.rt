@@ -84,6 +84,7 @@ fn step<S: Source, K: Sink, D: Driver<Card>>(
     ensures read_cause { result ≡ Err (FlowEnd.Stopped ReadStop.Fault) → Rose (S.faults src.old) (S.faults src.new) }
     ensures write_later { K.faults out.old ≤ K.faults out.new }
     ensures write_cause { result ≡ Err FlowEnd.WriteFault → Rose (K.faults out.old) (K.faults out.new) }
+    ensures write_steady { K.steady → ¬ (result ≡ Err FlowEnd.WriteFault) → K.faults out.new ≡ K.faults out.old }
 {
     fill(alloc, plan, header, src, out, passage)?;
     if passage.burst.len() == 0 && passage.slots.is_empty() {
@@ -150,6 +151,7 @@ pub fn transfer<S: Source, K: Sink, D: Driver<Card>>(
     ensures read_cause { result.end ≡ FlowEnd.Stopped ReadStop.Fault → Rose (S.faults src.old) (S.faults src.new) }
     ensures write_later { K.faults out.old ≤ K.faults out.new }
     ensures write_cause { result.end ≡ FlowEnd.WriteFault → Rose (K.faults out.old) (K.faults out.new) }
+    ensures write_steady { K.steady → ¬ (result.end ≡ FlowEnd.WriteFault) → K.faults out.new ≡ K.faults out.old }
 {
     let Ok(mut passage) = Passage::new(alloc, size) else {
         return Flow {

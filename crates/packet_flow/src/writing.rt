@@ -39,6 +39,7 @@ pub(crate) fn write_ready<K: Sink>(
     ensures waits { OnOk result (WaitsAtFront slots.new.items) }
     ensures later { K.faults out.old ≤ K.faults out.new }
     ensures cause { OnErr result (Rose (K.faults out.old) (K.faults out.new)) }
+    ensures steady { K.steady → OnOk result (K.faults out.new ≡ K.faults out.old) }
 {
     while let Some(Slot::Ready(_)) = slots.front() {
         let Some(Slot::Ready(written)) = slots.pop_front() else {

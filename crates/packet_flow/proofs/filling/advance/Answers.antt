@@ -50,6 +50,7 @@ returns-in_default-stop-2 g c =
       read_cause = λ no. cc;
       write_later = omega arith;
       write_cause = λ no. cc;
+      write_steady = λ steady no. refl;
       early = tt;
       never = λ no. cc;
     }

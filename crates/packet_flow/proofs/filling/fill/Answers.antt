@@ -8,6 +8,7 @@ loop-passage-init g c = record {
   underway = λ b o big left wrote u. outside_is c.args.plan.now b g.S.Source.tells g.K.Sink.tells c.args.passage.now o (g.S.Source.left c.args.src.now) (g.K.Sink.written c.args.out.now) left wrote u;
   read_later = omega arith;
   write_later = omega arith;
+  write_steady = λ steady. refl;
 }
 
 pub advance-requires-clause-underway : goal.advance-requires-clause-underway

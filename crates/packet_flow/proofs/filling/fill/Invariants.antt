@@ -10,6 +10,7 @@ invariant-loop-passage g l = record {
       → IsUnderway l.plan b g.S.Source.tells g.K.Sink.tells l.passage (record o { left = g.S.Source.left l.src; written = g.K.Sink.written l.out });
   read_later : g.S.Source.faults l.fn.src ≤ g.S.Source.faults l.src;
   write_later : g.K.Sink.faults l.fn.out ≤ g.K.Sink.faults l.out;
+  write_steady : g.K.Sink.steady → g.K.Sink.faults l.out ≡ g.K.Sink.faults l.fn.out;
 }
 
 abbrev pub decreases-loop-passage : goal.decreases-loop-passage

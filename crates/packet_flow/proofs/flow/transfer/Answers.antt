@@ -36,6 +36,7 @@ loop-moved-init g c = record {
   patience = omega arith;
   read_later = omega arith;
   write_later = omega arith;
+  write_steady = λ steady. refl;
 }
 
 pub step-requires-clause-sessions : goal.step-requires-clause-sessions
@@ -73,6 +74,9 @@ returns-in-Err-clause-write_later g c = omega (arith, c.loop-moved.invariant.wri
 
 pub returns-in-Err-clause-write_cause : goal.returns-in-Err-clause-write_cause
 returns-in-Err-clause-write_cause g c is = omega (arith, c.loop-moved.invariant.write_later, c.in-Err.ensures.write_cause (ap Err is))
+
+pub returns-in-Err-clause-write_steady : goal.returns-in-Err-clause-write_steady
+returns-in-Err-clause-write_steady g c steady other = c.in-Err.ensures.write_steady steady (λ is. other cc) ∙ c.loop-moved.invariant.write_steady steady
 
 pub overflow_add-stalled : goal.overflow_add-stalled
 overflow_add-stalled g c =
@@ -126,6 +130,9 @@ returns-then-stalled-stats-clause-read_later g c = omega (arith, c.loop-moved.in
 pub returns-then-stalled-stats-clause-write_later : goal.returns-then-stalled-stats-clause-write_later
 returns-then-stalled-stats-clause-write_later g c = omega (arith, c.loop-moved.invariant.write_later, c.step.ensures.write_later)
 
+pub returns-then-stalled-stats-clause-write_steady : goal.returns-then-stalled-stats-clause-write_steady
+returns-then-stalled-stats-clause-write_steady g c steady other = c.step.ensures.write_steady steady (λ is. cc) ∙ c.loop-moved.invariant.write_steady steady
+
 pub loop-moved-smaller : goal.loop-moved-smaller
 loop-moved-smaller g c =
     let few = enqueued_few c.args.plan.now _ g.S.Source.tells g.K.Sink.tells c.loop-moved.passage _ c.loop-moved.invariant.underway.3 in
@@ -147,4 +154,5 @@ loop-moved-preserved g c =
       patience = omega (arith, c.if-stalled-stats.false, ap (λ (s : Stats). s.enqueued) c.stats.ensures);
       read_later = omega (arith, inv.read_later, c.step.ensures.read_later);
       write_later = omega (arith, inv.write_later, c.step.ensures.write_later);
+      write_steady = λ steady. c.step.ensures.write_steady steady (λ is. cc) ∙ inv.write_steady steady;
     }

@@ -18,6 +18,7 @@ invariant-loop-moved g l = record {
   patience : l.stalled < 4096 * (1 + (g.D.Driver.stats l.dev).enqueued);
   read_later : g.S.Source.faults l.fn.src ≤ g.S.Source.faults l.src;
   write_later : g.K.Sink.faults l.fn.out ≤ g.K.Sink.faults l.out;
+  write_steady : g.K.Sink.steady → g.K.Sink.faults l.out ≡ g.K.Sink.faults l.fn.out;
 }
 
 abbrev pub decreases-loop-moved : goal.decreases-loop-moved

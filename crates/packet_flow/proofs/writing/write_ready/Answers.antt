@@ -74,4 +74,5 @@ loop-slots-preserved g c =
           written_more c.args.header.now.big plan used c.loop-slots.first ss w entries base (g.K.Sink.written c.loop-slots.out) (g.K.Sink.written c.write_record.new.sink) (front plan used entries b)
           (inv.written told plan used entries b base before) (c.in_ok-write_record.ensures.written told);
       later = omega (arith, inv.later, c.write_record.ensures.later);
+      steady = λ steady. c.in_ok-write_record.ensures.steady steady ∙ inv.steady steady;
     }

@@ -19,6 +19,7 @@ invariant-loop-slots g l = record {
       → g.K.Sink.written l.fn.out ≡ base ++ flat_map (answer_bytes l.header.big) (take l.fn.first (answered_from plan 0 used))
       → g.K.Sink.written l.out ≡ base ++ flat_map (answer_bytes l.header.big) (take l.first (answered_from plan 0 used));
   later : g.K.Sink.faults l.fn.out ≤ g.K.Sink.faults l.out;
+  steady : g.K.Sink.steady → g.K.Sink.faults l.out ≡ g.K.Sink.faults l.fn.out;
 }
 
 abbrev pub decreases-loop-slots : goal.decreases-loop-slots

@@ -1,5 +1,5 @@
 -- Which lists of transforms a session can be.
-use Rattle.std.specs.Prelude.{ℕ, List, [], ◌∷◌, length, Bool, true, false, ◌&&◌, ◌||◌, nat_eq, nat_le}
+use Rattle.std.specs.Prelude.{List, [], ◌∷◌, length, Bool, true, false, ◌&&◌, ◌||◌, nat_eq, nat_le}
 use Rattle.crypto_model.specs.Aes.{is_key_length}
 use Rattle.crypto_model.specs.Hmac.{digest_size}
 use Rattle.crypto_model.specs.Process.{Transform, Cipher, Auth, Aead}

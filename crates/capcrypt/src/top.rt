@@ -60,6 +60,7 @@ fn run_unreported<S: Source, T: Source, K: Sink, D: Device<Card>>(
         → Rose (S.faults capture.old) (S.faults capture.new) ⊎ Rose (T.faults sessions.old) (T.faults sessions.new) }
     ensures write_later { K.faults out.old ≤ K.faults out.new }
     ensures write_cause { result.ending ≡ Ending.WriteFault → Rose (K.faults out.old) (K.faults out.new) }
+    ensures write_steady { K.steady → ¬ (result.ending ≡ Ending.WriteFault) → K.faults out.new ≡ K.faults out.old }
 {
     match begin(alloc, words, devs.len(), sessions) {
         Ok(task) => process_capture(alloc, &task, capture, out, devs),
@@ -116,6 +117,7 @@ pub fn run<S: Source, T: Source, K: Sink, E: Sink, D: Device<Card>>(
     ensures stall_cause { result.status ≡ 7
         → let now = devices_now D.limit D.sessions D.held D.room D.stalls D.stats D.log in HaveStalledOut (now devs.items) (now result.devs.items) }
     // A write or a flush that failed is told.
+    ensures out_steady { K.steady → ¬ (result.status ≡ 6) → K.faults out.new ≡ K.faults out.old }
     ensures report_steady { E.steady → ¬ (result.status ≡ 6) → E.faults report.new ≡ E.faults report.old }
 
     // Where no count rose so far, words, session text and capture decide the status, or memory was wanting.

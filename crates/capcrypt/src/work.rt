@@ -8,7 +8,7 @@ ghost use Rattle.capture_io.specs.Capture.{Rec, Rest, Records, Reading, IsReadin
 ghost use Rattle.packet_plan.specs.Asked.{sessions_of};
 ghost use Rattle.packet_flow.specs.Counts.{counts_of};
 ghost use Rattle.packet_flow.specs.Entries.{entries_from};
-ghost use Rattle.packet_flow.specs.Offers.{Flows};
+ghost use Rattle.dev_core.specs.Offers.{Flows};
 ghost use Rattle.capcrypt.specs.Start.{Begins, settings_of};
 ghost use Rattle.capcrypt.specs.Written.{raised};
 ghost use Rattle.capcrypt.specs.Devices.{HasStalledOut, HaveStalledOut, devices_now};
@@ -85,7 +85,8 @@ fn write_packets<S: Source, K: Sink, D: Device<Card>>(
     requires log { D.log dev.old ≡ option_map (λ l. []) (D.log dev.old) }
     ensures job { S.tells → K.tells → (rs : List Rec) (rest : Rest) → Records header.now.big first_place (S.left capture.old) rs rest
         → let now = devices_now D.limit D.sessions D.held D.room D.stalls D.stats D.log
-        in Job (Begins (settings_of task.now)) (Holds header.now rs rest) result (K.written out.old) (K.written out.new) ⊥ (now (dev.old ∷ [])) (now (dev.new ∷ [])) }
+        in Job (Begins (settings_of task.now)) (Holds header.now rs rest) result (K.written out.old) (K.written out.new) ⊥
+        (now (dev.old ∷ [])) (now (dev.new ∷ [])) }
     // The calls that it made offer the operations in bursts of the task's size.
     ensures calls { S.tells → K.tells → (rs : List Rec) (rest : Rest) → Records header.now.big first_place (S.left capture.old) rs rest
         → (past : List Call) × Ran D.does dev.old past dev.new × Flows task.now.burst (entries_from task.now.plan 0 rs) past }
@@ -96,6 +97,7 @@ fn write_packets<S: Source, K: Sink, D: Device<Card>>(
     ensures read_cause { result.ending ≡ Ending.ReadFault → Rose (S.faults capture.old) (S.faults capture.new) }
     ensures write_later { K.faults out.old ≤ K.faults out.new }
     ensures write_cause { result.ending ≡ Ending.WriteFault → Rose (K.faults out.old) (K.faults out.new) }
+    ensures write_steady { K.steady → ¬ (result.ending ≡ Ending.WriteFault) → K.faults out.new ≡ K.faults out.old }
     ensures late { IsLate result.ending }
 {
     if let Err(_fault) = write_header(out, &raise(header)) {
@@ -139,15 +141,18 @@ fn process_packets<S: Source, K: Sink, D: Device<Card>>(
     requires idle { All (λ d. D.held d ≡ []) devs.old }
     ensures job { S.tells → K.tells → (rs : List Rec) (rest : Rest) → Records header.now.big first_place (S.left capture.old) rs rest
         → let now = devices_now D.limit D.sessions D.held D.room D.stalls D.stats D.log
-        in Job (Begins (settings_of task.now)) (Holds header.now rs rest) result (K.written out.old) (K.written out.new) (devs.new ≡ devs.old) (now devs.old) (now devs.new) }
+        in Job (Begins (settings_of task.now)) (Holds header.now rs rest) result (K.written out.old) (K.written out.new)
+        (devs.new ≡ devs.old) (now devs.old) (now devs.new) }
     ensures count { length devs.new ≡ length devs.old }
     ensures others { drop 1 devs.new ≡ drop 1 devs.old }
     ensures ended { S.tells → result.ending ≡ Ending.Done → S.left capture.new ≡ [] }
-    ensures stalled { result.ending ≡ Ending.Stalled → let now = devices_now D.limit D.sessions D.held D.room D.stalls D.stats D.log in HaveStalledOut (now devs.old) (now devs.new) }
+    ensures stalled { result.ending ≡ Ending.Stalled
+        → let now = devices_now D.limit D.sessions D.held D.room D.stalls D.stats D.log in HaveStalledOut (now devs.old) (now devs.new) }
     ensures read_later { S.faults capture.old ≤ S.faults capture.new }
     ensures read_cause { result.ending ≡ Ending.ReadFault → Rose (S.faults capture.old) (S.faults capture.new) }
     ensures write_later { K.faults out.old ≤ K.faults out.new }
     ensures write_cause { result.ending ≡ Ending.WriteFault → Rose (K.faults out.old) (K.faults out.new) }
+    ensures write_steady { K.steady → ¬ (result.ending ≡ Ending.WriteFault) → K.faults out.new ≡ K.faults out.old }
     ensures late { IsLate result.ending }
 {
     let dev = &mut devs[0];
@@ -175,11 +180,13 @@ pub(crate) fn process_capture<S: Source, K: Sink, D: Device<Card>>(
     ensures count { length devs.new ≡ length devs.old }
     ensures others { drop 1 devs.new ≡ drop 1 devs.old }
     ensures ended { S.tells → result.ending ≡ Ending.Done → S.left capture.new ≡ [] }
-    ensures stalled { result.ending ≡ Ending.Stalled → let now = devices_now D.limit D.sessions D.held D.room D.stalls D.stats D.log in HaveStalledOut (now devs.old) (now devs.new) }
+    ensures stalled { result.ending ≡ Ending.Stalled
+        → let now = devices_now D.limit D.sessions D.held D.room D.stalls D.stats D.log in HaveStalledOut (now devs.old) (now devs.new) }
     ensures read_later { S.faults capture.old ≤ S.faults capture.new }
     ensures read_cause { result.ending ≡ Ending.ReadFault → Rose (S.faults capture.old) (S.faults capture.new) }
     ensures write_later { K.faults out.old ≤ K.faults out.new }
     ensures write_cause { result.ending ≡ Ending.WriteFault → Rose (K.faults out.old) (K.faults out.new) }
+    ensures write_steady { K.steady → ¬ (result.ending ≡ Ending.WriteFault) → K.faults out.new ≡ K.faults out.old }
     ensures late { IsLate result.ending }
 {
     match read_header(capture) {

@@ -18,8 +18,8 @@ pub record DeviceNow : Type 0 where
   pub log : Option (List LogEntry)
 
 -- a device in this state, by the members of its bounds
-abbrev pub device_now : {D : Type 0} → (D → ℕ) → (D → List (List Transform)) → (D → List (Entry Card)) → (D → Option ℕ) → (D → ℕ) → (D → Stats)
-    → (D → Option (List LogEntry)) → D → DeviceNow
+abbrev pub device_now : {D : Type 0} → (D → ℕ) → (D → List (List Transform)) → (D → List (Entry Card)) → (D → Option ℕ) → (D → ℕ)
+    → (D → Stats) → (D → Option (List LogEntry)) → D → DeviceNow
 device_now limit sessions held room stalls stats log d = record {
   depth = limit d;
   sessions = sessions d;
@@ -30,8 +30,8 @@ device_now limit sessions held room stalls stats log d = record {
   log = log d;
 }
 
-abbrev pub devices_now : {D : Type 0} → (D → ℕ) → (D → List (List Transform)) → (D → List (Entry Card)) → (D → Option ℕ) → (D → ℕ) → (D → Stats)
-    → (D → Option (List LogEntry)) → List D → List DeviceNow
+abbrev pub devices_now : {D : Type 0} → (D → ℕ) → (D → List (List Transform)) → (D → List (Entry Card)) → (D → Option ℕ) → (D → ℕ)
+    → (D → Stats) → (D → Option (List LogEntry)) → List D → List DeviceNow
 devices_now limit sessions held room stalls stats log ds = map (device_now limit sessions held room stalls stats log) ds
 
 -- how many devices a run uses: the first alone, as yet

@@ -84,15 +84,7 @@ fn run_with<S: Source, T: Source>(
     let mut out = StdSink::new(out);
     let mut report = StdSink::new(rt.stderr());
     let devs = devices(alloc)?;
-    let done = run(
-        alloc,
-        words,
-        capture,
-        sessions,
-        &mut out,
-        &mut report,
-        devs,
-    );
+    let done = run(alloc, words, capture, sessions, &mut out, &mut report, devs);
     Ok(done.status)
 }
 

@@ -106,7 +106,8 @@ fn write_devices<E: Sink>(report: &mut E, devices: &[u64]) -> Result<(), WriteFa
 
 fn write_counts<E: Sink>(report: &mut E, counts: &Counts, devices: &[u64]) -> Result<(), WriteFault>
     ensures written { E.tells → OnOk result (E.written report.new ≡ E.written report.old ++ (first_line counts.now ++ device_lines 0 devices.now)) }
-    ensures fault { E.tells → OnErr result (AppendsFront (E.written report.old) (E.written report.new) (first_line counts.now ++ device_lines 0 devices.now)) }
+    ensures fault { E.tells → OnErr result
+        (AppendsFront (E.written report.old) (E.written report.new) (first_line counts.now ++ device_lines 0 devices.now)) }
     ensures later { E.faults report.old ≤ E.faults report.new }
     ensures cause { OnErr result (Rose (E.faults report.old) (E.faults report.new)) }
     ensures steady { E.steady → OnOk result (E.faults report.new ≡ E.faults report.old) }

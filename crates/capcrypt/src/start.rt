@@ -25,7 +25,8 @@ pub(crate) struct Task {
 
 // The plan of the session source.
 fn plan_in<T: Source>(alloc: Global, sessions: &mut T) -> Result<Plan, Ending>
-    ensures plan { T.tells → IfOk result (λ plan. (burst : ℕ) → start_with burst (T.left sessions.old) ≡ Begins (record { plan = plan; burst = burst })) }
+    ensures plan { T.tells
+        → IfOk result (λ plan. (burst : ℕ) → start_with burst (T.left sessions.old) ≡ Begins (record { plan = plan; burst = burst })) }
     ensures sound { IfOk result IsSound }
     ensures stops { T.tells → IfErr result (λ e. IsDecided e → (burst : ℕ) → start_with burst (T.left sessions.old) ≡ Stops e) }
     ensures never { ¬ (result ≡ Err Ending.WriteFault) × ¬ (result ≡ Err Ending.Stalled) × ¬ (result ≡ Err Ending.Done) }

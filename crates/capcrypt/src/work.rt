@@ -85,7 +85,8 @@ fn write_packets<S: Source, K: Sink, D: Device<Card>>(
     requires log { D.log dev.old ≡ option_map (λ l. []) (D.log dev.old) }
     ensures job { S.tells → K.tells → (rs : List Rec) (rest : Rest) → Records header.now.big first_place (S.left capture.old) rs rest
         → let now = devices_now D.limit D.sessions D.held D.room D.stalls D.stats D.log
-        in Job (Begins (settings_of task.now)) (Holds header.now rs rest) result (K.written out.old) (K.written out.new) ⊥ (now (dev.old ∷ [])) (now (dev.new ∷ [])) }
+        in Job (Begins (settings_of task.now)) (Holds header.now rs rest) result (K.written out.old) (K.written out.new) ⊥
+        (now (dev.old ∷ [])) (now (dev.new ∷ [])) }
     // The calls that it made offer the operations in bursts of the task's size.
     ensures calls { S.tells → K.tells → (rs : List Rec) (rest : Rest) → Records header.now.big first_place (S.left capture.old) rs rest
         → (past : List Call) × Ran D.does dev.old past dev.new × Flows task.now.burst (entries_from task.now.plan 0 rs) past }
@@ -139,11 +140,13 @@ fn process_packets<S: Source, K: Sink, D: Device<Card>>(
     requires idle { All (λ d. D.held d ≡ []) devs.old }
     ensures job { S.tells → K.tells → (rs : List Rec) (rest : Rest) → Records header.now.big first_place (S.left capture.old) rs rest
         → let now = devices_now D.limit D.sessions D.held D.room D.stalls D.stats D.log
-        in Job (Begins (settings_of task.now)) (Holds header.now rs rest) result (K.written out.old) (K.written out.new) (devs.new ≡ devs.old) (now devs.old) (now devs.new) }
+        in Job (Begins (settings_of task.now)) (Holds header.now rs rest) result (K.written out.old) (K.written out.new)
+        (devs.new ≡ devs.old) (now devs.old) (now devs.new) }
     ensures count { length devs.new ≡ length devs.old }
     ensures others { drop 1 devs.new ≡ drop 1 devs.old }
     ensures ended { S.tells → result.ending ≡ Ending.Done → S.left capture.new ≡ [] }
-    ensures stalled { result.ending ≡ Ending.Stalled → let now = devices_now D.limit D.sessions D.held D.room D.stalls D.stats D.log in HaveStalledOut (now devs.old) (now devs.new) }
+    ensures stalled { result.ending ≡ Ending.Stalled
+        → let now = devices_now D.limit D.sessions D.held D.room D.stalls D.stats D.log in HaveStalledOut (now devs.old) (now devs.new) }
     ensures read_later { S.faults capture.old ≤ S.faults capture.new }
     ensures read_cause { result.ending ≡ Ending.ReadFault → Rose (S.faults capture.old) (S.faults capture.new) }
     ensures write_later { K.faults out.old ≤ K.faults out.new }
@@ -175,7 +178,8 @@ pub(crate) fn process_capture<S: Source, K: Sink, D: Device<Card>>(
     ensures count { length devs.new ≡ length devs.old }
     ensures others { drop 1 devs.new ≡ drop 1 devs.old }
     ensures ended { S.tells → result.ending ≡ Ending.Done → S.left capture.new ≡ [] }
-    ensures stalled { result.ending ≡ Ending.Stalled → let now = devices_now D.limit D.sessions D.held D.room D.stalls D.stats D.log in HaveStalledOut (now devs.old) (now devs.new) }
+    ensures stalled { result.ending ≡ Ending.Stalled
+        → let now = devices_now D.limit D.sessions D.held D.room D.stalls D.stats D.log in HaveStalledOut (now devs.old) (now devs.new) }
     ensures read_later { S.faults capture.old ≤ S.faults capture.new }
     ensures read_cause { result.ending ≡ Ending.ReadFault → Rose (S.faults capture.old) (S.faults capture.new) }
     ensures write_later { K.faults out.old ≤ K.faults out.new }

@@ -1,5 +1,7 @@
 //! `crypt` through a plain device.
-use super::{Ended, Failing, HEAD_OF_16, HEAD_OF_60, HEADER, NOTHING, RAISED, joined, plain, run_in_memory};
+use super::{
+    Ended, Failing, HEAD_OF_16, HEAD_OF_60, HEADER, NOTHING, RAISED, joined, plain, run_in_memory,
+};
 use crypto_op::Card;
 use std::alloc::Global;
 use std::process::Abort;

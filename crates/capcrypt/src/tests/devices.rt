@@ -96,7 +96,10 @@ fn bursts_have_the_size_of_the_words(rt: HostRuntime) -> Result<(), Fail> {
     for (burst, expected) in [("32", 1), ("1", 0)] {
         let limits = Limits::Listed(LimitList::copy(alloc, &[31, 1])?);
         let run = crypt_over(alloc, limits, Limits::Never, burst, packets(alloc, 64)?)?;
-        assert_eq!(rt; (run.status, run.enqueued, stalls(&run)?), (0, 64, expected));
+        assert_eq!(rt;
+            (run.status, run.enqueued, stalls(&run)?),
+            (0, 64, expected)
+        );
     }
     let devs = stalling(alloc, Limits::Always(1), Limits::Never)?;
     let run = run_in_memory(alloc, &QUICK, &[], packets(alloc, 64)?, 1000, NOTHING, devs)?;

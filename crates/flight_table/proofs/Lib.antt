@@ -1,1 +1,6 @@
 pub mod Entries
+pub mod Puts
+pub mod Cells
+pub mod Moves
+pub mod Steps
+pub mod Owners

@@ -4,3 +4,4 @@ pub mod Cells
 pub mod Moves
 pub mod Steps
 pub mod Owners
+pub mod Hands

@@ -58,7 +58,7 @@ impl Hand {
         let deck: &Deck = &self.deck;
         let loaded = deck.shared.load::<Looks>(&mut self.seat, k);
         let first = Word::unpack(loaded);
-        if first.phase != Phase::Ready || first.worker != self.worker {
+        if !first.is(Phase::Ready) || first.worker != self.worker {
             return Err(first);
         }
         let taken = Word {

@@ -82,7 +82,7 @@ impl Owner {
     {
         let deck: &Deck = &self.deck;
         let found = Word::unpack(deck.shared.load::<FindsDone>(&mut self.seat, k));
-        if found.phase != Phase::Done {
+        if !found.is(Phase::Done) {
             return Err(found);
         }
         let op = deck.shared.exchange(&mut self.seat, k, None);
@@ -100,10 +100,10 @@ impl Owner {
         let deck: &Deck = &self.deck;
         let loaded = deck.shared.load::<FindsBack>(&mut self.seat, k);
         let first = Word::unpack(loaded);
-        if first.phase == Phase::Back {
+        if first.is(Phase::Back) {
             return Ok(regain(deck, &mut self.seat, k));
         }
-        if first.phase != Phase::Ready {
+        if !first.is(Phase::Ready) {
             return Err(first);
         }
         let found = deck
@@ -115,7 +115,7 @@ impl Owner {
             return Ok(some_op(op));
         }
         let word = Word::unpack(found);
-        if word.phase == Phase::Back {
+        if word.is(Phase::Back) {
             return Ok(regain(deck, &mut self.seat, k));
         }
         Err(word)

@@ -1,5 +1,5 @@
 //! The word of a slot.
-ghost use Rattle.std.specs.Prelude.{◌≡◌, ◌<◌, ◌^◌};
+ghost use Rattle.std.specs.Prelude.{◌≡◌, ◌<◌, ◌^◌, ◌↔◌, IsTrue};
 ghost use Rattle.flight_table.specs.Word.{code, phase_of, packed, unpacked};
 
 /// Where the operation of a slot is. FREE is the phase of no slot of an open table.
@@ -60,6 +60,12 @@ pub struct Word {
 }
 
 impl Word {
+    pub(crate) fn is(self, phase: Phase) -> bool
+        ensures { IsTrue result ↔ (self.phase ≡ phase) }
+    {
+        self.phase == phase
+    }
+
     pub(crate) fn pack(self) -> u64
         requires { (self.number < 2 ^ 58) × (self.worker < 8) }
         ensures { result ≡ packed self }

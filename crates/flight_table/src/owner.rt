@@ -49,12 +49,12 @@ impl Owner {
         requires op { Waiting self.old.view.about op.cargo.number op }
         ensures { self.new ≡ with_view self.old (published self.old.view k (sent op.cargo.number w)) }
     {
+        let deck: &Deck = &self.deck;
         let word = Word {
             phase: Phase::Ready,
             number: op.cargo().number(),
             worker: w as u8,
         };
-        let deck: &Deck = &self.deck;
         deck.shared.load::<Grabs>(&mut self.seat, k);
         match deck.shared.exchange(&mut self.seat, k, Some(op)) {
             None => {}

@@ -36,3 +36,6 @@ store-requires c =
           (ap (λ d. look d.view.given c.args.k) c.self.view_is ∙ c.requires.slot.1) (let few = i.7 in omega (arith, few, made, w)) (c.pack.ensures ∙ ap (λ (p : ℕ). packed (word Ready p c.args.w)) number)
           (subst (λ (z : BookData). Waiting z c.args.op.cargo.number c.args.op) (ap (λ d. d.view.about) (sym c.self.view_is)) c.requires.op),
     )
+
+pub overflow_cast-word : goal.overflow_cast-word
+overflow_cast-word c = let few = c.self.invariant.7 in let made = ap (λ d. d.view.made) c.self.view_is in let w = c.requires.worker in omega (arith, few, made, w)

@@ -5,3 +5,4 @@ pub mod Moves
 pub mod Steps
 pub mod Owners
 pub mod Hands
+pub mod Recalls

@@ -6,3 +6,4 @@ pub mod Steps
 pub mod Owners
 pub mod Hands
 pub mod Recalls
+pub mod Crosses

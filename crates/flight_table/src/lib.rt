@@ -13,6 +13,7 @@ mod flight;
 mod hand;
 mod owner;
 mod rule;
+mod threads;
 mod word;
 
 pub use book::{Book, Note};

@@ -7,3 +7,4 @@ pub mod Owners
 pub mod Hands
 pub mod Recalls
 pub mod Crosses
+pub mod Answered

@@ -22,3 +22,6 @@ pub use hand::Hand;
 pub use owner::Owner;
 pub use word::{Phase, Word};
 
+
+#[cfg(test)]
+mod tests;

@@ -26,6 +26,10 @@ desk t n v = record { table = t; slots = n; view = v }
 abbrev pub with_view : Desk → FlightView → Desk
 with_view d v = record { table = d.table; slots = d.slots; view = v }
 
+-- the same table, and a view of the same book
+abbrev pub IsSameDesk : Desk → Desk → Type 0
+IsSameDesk d e = (e ≡ with_view d e.view) × (e.view.about ≡ d.view.about)
+
 -- the hands of the first workers, in order
 abbrev pub hands_of : TableId → ℕ → BookData → ℕ → List Desk
 hands_of t n about zero = []

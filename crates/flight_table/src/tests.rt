@@ -1,5 +1,6 @@
 ghost use Rattle.std.specs.Prelude.{◌≡◌, ◌+◌, ◌<◌, ◌^◌, [], length, IfOk, IfSome};
 ghost use Rattle.crypto_op.specs.Op.{IsFresh, IsDone, entry_of};
+ghost use Rattle.flight_table.specs.Call.{IsSameDesk};
 ghost use Rattle.flight_table.specs.Rule.{Waiting};
 
 use crate::{Book, Flight, Hand, Note, Owner, Phase, Word};
@@ -51,4 +52,106 @@ fn answer(op: &mut Op<Note>)
     ensures entry { entry_of op.new ≡ entry_of op.old }
 {
     op.set_status(Status::InvalidSession);
+}
+
+// The number of an operation that came back.
+fn met(book: &mut Book, op: Op<Note>) -> u64
+    requires { op.cargo.book ≡ book.old.table }
+    ensures number { result ≡ op.cargo.number }
+    ensures same { book.new ≡ book.old }
+{
+    let (_, note) = op.with_cargo(());
+    book.meet(note)
+}
+
+fn recalled(owner: &mut Owner, book: &mut Book, k: usize) -> Result<u64, Word>
+    requires slot { k < owner.old.slots }
+    requires book { owner.old.view.about.table ≡ book.old.table }
+    ensures owner { IsSameDesk owner.old owner.new }
+    ensures book { book.new ≡ book.old }
+{
+    let op = owner.recall(k)?;
+    Ok(met(book, op))
+}
+
+fn collected(owner: &mut Owner, book: &mut Book, k: usize) -> Result<u64, Word>
+    requires slot { k < owner.old.slots }
+    requires book { owner.old.view.about.table ≡ book.old.table }
+    ensures owner { IsSameDesk owner.old owner.new }
+    ensures book { book.new ≡ book.old }
+{
+    let op = owner.collect(k)?;
+    Ok(met(book, op))
+}
+
+// Takes an operation and finishes it.
+fn finished(hand: &mut Hand, k: usize) -> Result<(), Word>
+    requires slot { k < hand.old.slots }
+    requires sessions { hand.old.view.about.sessions ≡ [] }
+    ensures { IsSameDesk hand.old hand.new }
+{
+    let mut op = hand.take(k)?;
+    answer(&mut op);
+    hand.finish(k, op);
+    Ok(())
+}
+
+// Takes an operation and gives it back.
+fn returned(hand: &mut Hand, k: usize) -> Result<(), Word>
+    requires { k < hand.old.slots }
+    ensures { IsSameDesk hand.old hand.new }
+{
+    let op = hand.take(k)?;
+    hand.give_back(k, op);
+    Ok(())
+}
+
+// What the owner finds while a worker has an operation, which is then given back.
+fn seen_while_taken(
+    hand: &mut Hand,
+    owner: &mut Owner,
+    k: usize,
+) -> Result<(Option<Word>, Option<Word>), Word>
+    requires hand { k < hand.old.slots }
+    requires owner { k < owner.old.slots }
+    ensures hand { IsSameDesk hand.old hand.new }
+    ensures owner { IsSameDesk owner.old owner.new }
+{
+    let op = hand.take(k)?;
+    let recalled = owner.recall(k).err();
+    let collected = owner.collect(k).err();
+    hand.give_back(k, op);
+    Ok((recalled, collected))
+}
+
+fn to_worker_1(phase: Phase) -> Word {
+    Word {
+        phase,
+        number: 0,
+        worker: 1,
+    }
+}
+
+#[test]
+fn an_operation_goes_from_phase_to_phase(rt: HostRuntime) -> Result<(), Fail> {
+    let alloc = rt.alloc();
+    let mut book = Book::open(alloc, &SessionTable::new(alloc)?)?;
+    let (mut owner, mut hands) = Flight::open(alloc, 2, 2, &book)?;
+    let mut second = hands.pop().ok_or("a hand")?;
+    let mut first = hands.pop().ok_or("a hand")?;
+    let ready = to_worker_1(Phase::Ready);
+    let taken = Some(to_worker_1(Phase::Taken));
+    let back = to_worker_1(Phase::Back);
+    assert!(rt; owner.look(0).phase == Phase::Held);
+    owner.publish(0, noted(&mut book, operation(alloc)?), 1);
+    owner.publish(1, noted(&mut book, operation(alloc)?), 0);
+    assert!(rt; owner.look(0) == ready);
+    assert!(rt; finished(&mut first, 0) == Err(ready));
+    assert!(rt; seen_while_taken(&mut second, &mut owner, 0) == Ok((taken, taken)));
+    assert!(rt; second.look(0) == back && collected(&mut owner, &mut book, 0) == Err(back));
+    assert!(rt; recalled(&mut owner, &mut book, 0) == Ok(0));
+    assert!(rt; finished(&mut first, 1) == Ok(()));
+    assert!(rt; recalled(&mut owner, &mut book, 1).is_err_and(|w| w.phase == Phase::Done));
+    assert!(rt; collected(&mut owner, &mut book, 1) == Ok(1));
+    Ok(())
 }

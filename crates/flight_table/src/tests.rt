@@ -1,4 +1,5 @@
-ghost use Rattle.std.specs.Prelude.{◌≡◌, ◌+◌, ◌<◌, ◌^◌, [], length, IfOk, IfSome};
+ghost use Rattle.std.specs.Prelude.{◌≡◌, ◌+◌, ◌<◌, ◌^◌, [], length, IfOk};
+ghost use Rattle.std.specs.Thread.{IsSync};
 ghost use Rattle.crypto_op.specs.Op.{IsFresh, IsDone, entry_of};
 ghost use Rattle.flight_table.specs.Call.{IsSameDesk};
 ghost use Rattle.flight_table.specs.Rule.{Waiting};
@@ -153,5 +154,116 @@ fn an_operation_goes_from_phase_to_phase(rt: HostRuntime) -> Result<(), Fail> {
     assert!(rt; finished(&mut first, 1) == Ok(()));
     assert!(rt; recalled(&mut owner, &mut book, 1).is_err_and(|w| w.phase == Phase::Done));
     assert!(rt; collected(&mut owner, &mut book, 1) == Ok(1));
+    Ok(())
+}
+
+// The number that comes back at a slot, in whatever way, once it does.
+fn comes_back<R: Wait>(rt: &R, owner: &mut Owner, book: &mut Book, k: usize) -> Option<u64>
+    requires slot { k < owner.old.slots }
+    requires book { owner.old.view.about.table ≡ book.old.table }
+    ensures owner { IsSameDesk owner.old owner.new }
+    ensures book { book.new ≡ book.old }
+{
+    let mut number = None;
+    for _ in rt.forever() {
+        number = tried(owner, book, k);
+        if number.is_some() {
+            break;
+        }
+        thread::yield_now();
+    }
+    number
+}
+
+fn tried(owner: &mut Owner, book: &mut Book, k: usize) -> Option<u64>
+    requires slot { k < owner.old.slots }
+    requires book { owner.old.view.about.table ≡ book.old.table }
+    ensures owner { IsSameDesk owner.old owner.new }
+    ensures book { book.new ≡ book.old }
+{
+    match collected(owner, book, k) {
+        Ok(number) => Some(number),
+        Err(word) => {
+            if word.phase == Phase::Back {
+                recalled(owner, book, k).ok()
+            } else {
+                None
+            }
+        }
+    }
+}
+
+// Takes what is for this worker, finishes the first two and gives the others back.
+fn serve(mut hand: Hand)
+    requires slots { hand.slots ≡ 4 }
+    requires sessions { hand.view.about.sessions ≡ [] }
+{
+    let _ = finished(&mut hand, 0);
+    let _ = finished(&mut hand, 1);
+    let _ = returned(&mut hand, 2);
+    let _ = returned(&mut hand, 3);
+}
+
+fn all_come_back<R: Wait>(rt: &R, mut owner: Owner, mut book: Book) -> [Option<u64>; 4]
+    requires slots { owner.slots ≡ 4 }
+    requires book { owner.view.about.table ≡ book.table }
+{
+    [
+        comes_back(rt, &mut owner, &mut book, 0),
+        comes_back(rt, &mut owner, &mut book, 1),
+        comes_back(rt, &mut owner, &mut book, 2),
+        comes_back(rt, &mut owner, &mut book, 3),
+    ]
+}
+
+fn run<R: Threads + Wait + Sync>(rt: &R, owner: Owner, book: Book, first: Hand, second: Hand) -> [Option<u64>; 4]
+    requires owner { (owner.slots ≡ 4) × (owner.view.about.table ≡ book.table) }
+    requires first { (first.slots ≡ 4) × (first.view.about.sessions ≡ []) }
+    requires second { (second.slots ≡ 4) × (second.view.about.sessions ≡ []) }
+{
+    let (numbers, _) = thread::join(
+        rt,
+        move || -> [Option<u64>; 4]
+            requires { (owner.slots ≡ 4) × (owner.view.about.table ≡ book.table) }
+        { all_come_back(rt, owner, book) },
+        move || -> ((), ())
+            requires { IsSync R.row × (first.slots ≡ 4) × (first.view.about.sessions ≡ []) × (second.slots ≡ 4) × (second.view.about.sessions ≡ []) }
+        {
+            thread::join(
+                rt,
+                move ||
+                    requires { (first.slots ≡ 4) × (first.view.about.sessions ≡ []) }
+                { serve(first) },
+                move ||
+                    requires { (second.slots ≡ 4) × (second.view.about.sessions ≡ []) }
+                { serve(second) },
+            )
+        },
+    );
+    numbers
+}
+
+#[test]
+fn each_number_comes_back_whatever_the_schedule(rt: HostRuntime) -> Result<(), Fail> {
+    let alloc = rt.alloc();
+    let mut book = Book::open(alloc, &SessionTable::new(alloc)?)?;
+    let (mut owner, mut hands) = Flight::open(alloc, 4, 2, &book)?;
+    owner.publish(0, noted(&mut book, operation(alloc)?), 0);
+    owner.publish(1, noted(&mut book, operation(alloc)?), 1);
+    owner.publish(2, noted(&mut book, operation(alloc)?), 0);
+    owner.publish(3, noted(&mut book, operation(alloc)?), 1);
+    let second = hands.pop().ok_or("a hand")?;
+    let first = hands.pop().ok_or("a hand")?;
+    let numbers = run(&rt, owner, book, first, second);
+    assert!(rt; numbers == [Some(0), Some(1), Some(2), Some(3)]);
+    Ok(())
+}
+
+#[test]
+fn a_table_ends_with_its_hands(rt: HostRuntime) -> Result<(), Fail> {
+    let alloc = rt.alloc();
+    let book = Book::open(alloc, &SessionTable::new(alloc)?)?;
+    let (owner, hands) = Flight::open(alloc, 2, 2, &book)?;
+    owner.close(hands);
     Ok(())
 }

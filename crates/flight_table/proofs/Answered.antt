@@ -1,11 +1,10 @@
 -- Where there are no sessions, an operation's answer is a refusal.
-use Rattle.std.proofs.Common.{◌≡◌, [], refl, sym, ap, ◌∙◌}
+use Rattle.std.proofs.Common.{[], refl, sym, ◌∙◌}
 use Rattle.crypto_model.specs.Process.{processed}
 use Rattle.crypto_model.specs.declared.plain.Status.TheVariants.{InvalidSession}
-use Rattle.mbuf_chain.specs.Chain.{with_packet}
 use Rattle.mbuf_chain.proofs.Chains.{with_packet-own}
 use Rattle.crypto_op.specs.declared.op.Op.{Op}
-use Rattle.crypto_op.specs.Op.{made, present, answered, input_of, IsFresh, IsDone}
+use Rattle.crypto_op.specs.Op.{made, IsFresh, IsDone}
 
 pub is_refused : {C : Type 0} (op : Op C) → IsFresh op → IsDone [] record op { status = InvalidSession }
 unfolding processed

@@ -1,18 +1,14 @@
 -- The words of slots.
-use Rattle.std.proofs.Common.{◌≡◌, ◌≢◌, ℕ, zero, suc, ◌+◌, ◌*◌, ◌/◌, ◌%◌, ◌<◌, ◌⊎◌, inl, inr, if◌then◌else◌, eq-eqb, ne_eqb, Bool, true, false, List, [], ◌∷◌, refl, sym, ap, ◌∙◌, subst, arith, Option, Some, None}
+use Rattle.std.proofs.Common.{◌≡◌, ◌≢◌, ℕ, zero, suc, ◌+◌, ◌*◌, ◌/◌, ◌%◌, ◌<◌, inr, if◌then◌else◌, eq-eqb, ne_eqb, refl, sym, ap, ◌∙◌, subst, arith, Some, None}
 use native.Mathlib.Decide.{ℕ_discrete}
-use mathlib.Core.Option.{some}
-use mathlib.Core.Option as maybe
 use Rattle.flight_table.specs.declared.word.Phase.{Phase}
 use Rattle.flight_table.specs.declared.word.Phase.TheVariants.{Free, Held, Ready, Taken, Done, Back}
 use Rattle.flight_table.specs.declared.word.Word.{Word}
-use Rattle.flight_table.specs.declared.rule.Sent.{Sent}
 use Rattle.flight_table.specs.declared.rule.FlightView.{FlightView}
 use Rattle.flight_table.specs.Note.{BookData}
 use Rattle.flight_table.specs.Word.{word, code, phase_of, packed, unpacked}
-use Rattle.flight_table.specs.View.{sent}
-use Rattle.flight_table.specs.Rule.{Flying, Slot, Home, Cell, held, ready, taken, done, back, word_of, due, listing, IsOwners, Lies, is_done, dones}
-use Rattle.flight_table.specs.Call.{IsOut, ShownAs, IsPacked}
+use Rattle.flight_table.specs.Rule.{Home, Cell, held, ready, taken, done, back, word_of, due, listing, IsOwners, Lies, is_done, dones}
+use Rattle.flight_table.specs.Call.{ShownAs, IsPacked}
 use Rattle.flight_table.proofs.Puts.{put, put_here, put_else, none_some, some_same}
 
 -- a packed word is read back
@@ -29,6 +25,7 @@ reads w few = λ i. word (phase i) (number i) (worker i)
         go Taken = omega arith
         go Done = omega arith
         go Back = omega arith
+
     small : code w.phase < 6
     small = go w.phase
       where
@@ -39,6 +36,7 @@ reads w few = λ i. word (phase i) (number i) (worker i)
         go Taken = omega arith
         go Done = omega arith
         go Back = omega arith
+
     same : (p : Phase) → phase_of (code p) ≡ p
     same Free = refl
     same Held = refl
@@ -46,10 +44,13 @@ reads w few = λ i. word (phase i) (number i) (worker i)
     same Taken = refl
     same Done = refl
     same Back = refl
+
     phase : phase_of (packed w % 8) ≡ w.phase
     phase = ap phase_of low ∙ same w.phase
+
     number : packed w / 64 ≡ w.number
     number = let s = small in omega (arith, s, few)
+
     worker : packed w / 8 % 8 ≡ w.worker
     worker = let s = small in omega (arith, s, few)
 
@@ -106,6 +107,7 @@ phase_same a b = go (ℕ_discrete (code a) (code b))
     same Taken = refl
     same Done = refl
     same Back = refl
+
     go : Dec (code a ≡ code b) → Dec (a ≡ b)
     go (yes e) = yes (sym (same a) ∙ ap phase_of e ∙ same b)
     go (no n) = no (λ e. n (ap code e))
@@ -145,6 +147,7 @@ dones_put w cells k c (suc n) lt = go (ℕ_discrete n k) (dones_put w cells k c 
     below : (m : ℕ) → m < suc k → (m < suc k → dones w (put cells k c) m ≡ dones w cells m)
     below zero a = λ _. refl
     below (suc m) a = λ _. let s : is_done w (put cells k c m) ≡ is_done w (cells m) = ap (is_done w) (put_else cells k m c (λ e. omega arith)) in let t = below m (omega arith) (omega arith) in omega (arith, s, t)
+
     go : Dec (n ≡ k) → (k < n → dones w (put cells k c) n + is_done w (cells k) ≡ dones w cells n + is_done w c) → dones w (put cells k c) (suc n) + is_done w (cells k) ≡ dones w cells (suc n) + is_done w c
     go (yes e) _ = let h : is_done w (put cells k c n) ≡ is_done w c = subst (λ (m : ℕ). is_done w (put cells k c m) ≡ is_done w c) (sym e) (ap (is_done w) (put_here cells k c)) in let g : is_done w (cells n) ≡ is_done w (cells k) = ap (λ (m : ℕ). is_done w (cells m)) e in let b = below n (omega arith) (omega arith) in omega (arith, h, g, b)
     go (no ne) rec = let h : is_done w (put cells k c n) ≡ is_done w (cells n) = ap (is_done w) (put_else cells k n c ne) in let d = rec (omega arith) in omega (arith, h, d)

@@ -1,5 +1,5 @@
 -- Each step of a book keeps its rule.
-use Rattle.std.proofs.Common.{◌≡◌, ◌≢◌, ◌⊎◌, ℕ, zero, suc, ◌+◌, ◌%◌, ◌<◌, ◌^◌, List, [], ◌∷◌, ◌++◌, length, set, Option, Some, None, Bool, true, false, true≢false, refl, sym, ap, ◌∙◌, subst, ⊎_elim, arith, length-append}
+use Rattle.std.proofs.Common.{◌≡◌, ◌≢◌, ℕ, zero, suc, ◌+◌, ◌%◌, ◌<◌, ◌^◌, List, [], ◌∷◌, ◌++◌, length, set, Some, None, true, false, true≢false, refl, sym, ap, ◌∙◌, subst, ⊎_elim, arith, length-append}
 use Rattle.std.specs.Prelude.{slice_get, slice_index}
 use mathlib.Core.Option.{some, some-ne-none, some-injective}
 use lib.ListN.{get_elem?}
@@ -89,7 +89,7 @@ checks slots id v owns s h _ at _ =
       (
         h.0,
         h.1,
-        ap (λ (ws : List ℕ). set ws 0 (slice_index ws 0)) h.2 ,
+        ap (λ (ws : List ℕ). set ws 0 (slice_index ws 0)) h.2,
         fits_set h.0 h.1 s.views id w (λ j u apart g. h.3 j u g) ((λ _. known), (λ x c. absurd (no_entry x c))),
       ),
       (refl, λ x c. subst (λ l. slice_get l v.number ≡ Some x) (sym known.1) (mine.1 x c)),
@@ -105,7 +105,7 @@ gives id all s h at =
       λ j u e. ⊎_elim
           (λ was. h.3 j u (subst (λ l. get_elem? l j ≡ some u) (set_again s.views id (owner_of all) at) was))
           (λ (same : newest (owner_of all) ≡ u). subst (Fits h.0 h.1 j) same
-              ((λ k. absurd (off (sym (newest_owns all) ∙ k))), (λ x c. subst (λ l. slice_get l (newest_note all).number ≡ Some x) mine.1 (newest_fits all x c))))
+          ((λ k. absurd (off (sym (newest_owns all) ∙ k))), (λ x c. subst (λ l. slice_get l (newest_note all).number ≡ Some x) mine.1 (newest_fits all x c))))
           (at_snoc (set s.views id (owner_of all)) (newest (owner_of all)) u j e),
     )
 

@@ -1,10 +1,9 @@
 -- A table is opened, hands are made, and hands are joined.
-use Rattle.std.proofs.Common.{◌≡◌, ◌≢◌, ◌⊎◌, ℕ, zero, suc, ◌+◌, ◌<◌, ◌≤◌, List, [], ◌∷◌, length, map, replicate, set, get_or, inl, inr, refl, sym, ap, ◌∙◌, subst, ⊎_elim, arith, length-set, Option, Some, None}
+use Rattle.std.proofs.Common.{◌≡◌, ◌≢◌, ℕ, zero, suc, ◌+◌, ◌<◌, List, [], ◌∷◌, length, map, replicate, set, get_or, inl, refl, sym, ap, ◌∙◌, subst, ⊎_elim, arith, length-set, Some, None}
 use Rattle.std.proofs.lemmas.List.{length-map, length-replicate}
 use native.Mathlib.Decide.{ℕ_discrete}
 use mathlib.Core.Logic.{dite}
 use mathlib.Core.Option.{some, some-injective, some-ne-none}
-use mathlib.Core.Option as maybe
 use lib.ListN.{get_elem?}
 use Rattle.atomic_table.specs.Table.{opening, Splits, Joins}
 use Rattle.atomic_table.proofs.Lists.{at_set}
@@ -13,7 +12,7 @@ use Rattle.flight_table.specs.declared.rule.Role.{Role}
 use Rattle.flight_table.specs.declared.rule.Role.TheVariants.{Owns, Takes, Spent}
 use Rattle.flight_table.specs.declared.rule.FlightView.{FlightView}
 use Rattle.flight_table.specs.View.{look, times, opened, new_hand, made_one, joined, spent}
-use Rattle.flight_table.specs.Rule.{Slot, held, SlotOk, dones, SeatOk, InFlight}
+use Rattle.flight_table.specs.Rule.{Slot, held, dones, SeatOk, InFlight}
 use Rattle.flight_table.proofs.Puts.{put, put_here, put_else, look_here, look_else, at_snoc_here, idle, some_same}
 use Rattle.flight_table.proofs.Cells.{no_dones}
 use Rattle.flight_table.proofs.Moves.{St, slot_on}
@@ -45,15 +44,15 @@ owner_splits about id v role s r at =
       wide = r.wide;
       each_seat = λ j u e. ⊎_elim
           (λ was. ⊎_elim
-              (λ (x : (j ≡ id) × (o' ≡ u)). subst (λ (y : ℕ × FlightView). SeatOk r.owner o' seats' r.hand y.0 y.1 y.1.role) (λ i. (sym x.0 i, x.1 i)) (subst (SeatOk r.owner o' seats' r.hand id o') (sym role) (mine.0, refl)))
-              (λ (x : (j ≢ id) × (get_elem? s.views j ≡ some u)). others s r id v j u u.role x.0 mine.0 is (r.each_seat j u x.1))
-              (at_set s.views id j o' u was))
+          (λ (x : (j ≡ id) × (o' ≡ u)). subst (λ (y : ℕ × FlightView). SeatOk r.owner o' seats' r.hand y.0 y.1 y.1.role) (λ i. (sym x.0 i, x.1 i)) (subst (SeatOk r.owner o' seats' r.hand id o') (sym role) (mine.0, refl)))
+          (λ (x : (j ≢ id) × (get_elem? s.views j ≡ some u)). others s r id v j u u.role x.0 mine.0 is (r.each_seat j u x.1))
+          (at_set s.views id j o' u was))
           (λ (x : (h ≡ u) × (j ≡ length (set s.views id o'))). subst (λ (z : FlightView). SeatOk r.owner o' seats' r.hand j z z.role) x.0
-              (let g : v.made ≡ r.o.made = ap (λ z. z.made) mine.1 in
-               let un = r.unmade v.made (omega (arith, g)) in
-               let no_gain : look v.gathered v.made ≡ None = ap (λ z. look z.gathered v.made) mine.1 ∙ un.1 in
-               let f : r.hand v.made ≡ h = un.0 ∙ ap (λ b. new_hand b v.made) (sym ours) in
-               (omega arith, x.1 ∙ length-set s.views id o' ∙ sym (put_here r.seat_of v.made (length s.views)), sym f, no_gain)))
+          (let g : v.made ≡ r.o.made = ap (λ z. z.made) mine.1 in
+          let un = r.unmade v.made (omega (arith, g)) in
+          let no_gain : look v.gathered v.made ≡ None = ap (λ z. look z.gathered v.made) mine.1 ∙ un.1 in
+          let f : r.hand v.made ≡ h = un.0 ∙ ap (λ b. new_hand b v.made) (sym ours) in
+          (omega arith, x.1 ∙ length-set s.views id o' ∙ sym (put_here r.seat_of v.made (length s.views)), sym f, no_gain)))
           (at_snoc_here (set s.views id o') h u j e);
       each_slot = λ k lt. slot_on about k r.o o' r.hand r.hand (get_or s.words k 0) (get_elem? s.homes k) (r.cells k) (ap (λ z. look z.given k) mine.1) (λ x. ap (λ z. z.out) mine.1 ∙ x) (λ x. (ap (λ z. z.out) is ∙ x, ap (λ z. z.mark) mine.1)) (λ _. refl) (λ _ x. x) (r.each_slot k lt);
       counted = λ w. ap (λ z. times w z.collected + dones w r.cells (length s.homes)) mine.1 ∙ r.counted w;
@@ -123,9 +122,9 @@ owner_joins about id v other w role role' s r at apart there =
       each_seat = λ j u e. ⊎_elim
           (λ (x : (j ≡ other) × (spent ≡ u)). subst (λ (z : FlightView). SeatOk r.owner o' r.seat_of r.hand j z z.role) x.1 tt)
           (λ (x : (j ≢ other) × (get_elem? (set s.views id o') j ≡ some u)). ⊎_elim
-              (λ (y : (j ≡ id) × (o' ≡ u)). subst (λ (z : ℕ × FlightView). SeatOk r.owner o' r.seat_of r.hand z.0 z.1 z.1.role) (λ i. (sym y.0 i, y.1 i)) (subst (SeatOk r.owner o' r.seat_of r.hand id o') (sym role) (mine.0, refl)))
-              (λ (y : (j ≢ id) × (get_elem? s.views j ≡ some u)). left_over s r v w j u u.role id y.0 mine.0 is (λ q. x.0 (q ∙ sym theirs.1)) (r.each_seat j u y.1))
-              (at_set s.views id j o' u x.1))
+          (λ (y : (j ≡ id) × (o' ≡ u)). subst (λ (z : ℕ × FlightView). SeatOk r.owner o' r.seat_of r.hand z.0 z.1 z.1.role) (λ i. (sym y.0 i, y.1 i)) (subst (SeatOk r.owner o' r.seat_of r.hand id o') (sym role) (mine.0, refl)))
+          (λ (y : (j ≢ id) × (get_elem? s.views j ≡ some u)). left_over s r v w j u u.role id y.0 mine.0 is (λ q. x.0 (q ∙ sym theirs.1)) (r.each_seat j u y.1))
+          (at_set s.views id j o' u x.1))
           (at_set (set s.views id o') other j spent u e);
       each_slot = λ k lt. slot_on about k r.o o' r.hand r.hand (get_or s.words k 0) (get_elem? s.homes k) (r.cells k) (ap (λ z. look z.given k) mine.1) (λ x. ap (λ z. z.out) mine.1 ∙ x) (λ x. (ap (λ z. z.out) is ∙ x, ap (λ z. z.mark) mine.1)) (λ _. refl) (λ _ x. x) (r.each_slot k lt);
       counted = λ u. ap (λ z. times u z.collected + dones u r.cells (length s.homes)) mine.1 ∙ r.counted u;

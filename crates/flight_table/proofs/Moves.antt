@@ -1,9 +1,7 @@
 -- What stays of the rule when one seat steps at one slot.
-use Rattle.std.proofs.Common.{◌≡◌, ◌≢◌, ◌⊎◌, ℕ, zero, suc, ◌+◌, ◌*◌, ◌<◌, ◌≤◌, List, [], ◌∷◌, length, set, get_or, inl, inr, refl, sym, ap, ◌∙◌, subst, ⊎_elim, arith, length-set, get_or-set_other, get_or-set_same, Option, Some, None}
-use mathlib.Core.Path.{Path}
+use Rattle.std.proofs.Common.{◌≡◌, ◌≢◌, ℕ, ◌+◌, ◌<◌, ◌≤◌, List, length, set, get_or, inl, inr, refl, sym, ap, ◌∙◌, subst, ⊎_elim, arith, length-set, get_or-set_other, get_or-set_same, Some, None}
 use mathlib.Core.Option.{some}
 use mathlib.Core.Option as maybe
-use native.Mathlib.Decide.{ℕ_discrete}
 use lib.ListN.{get_elem?}
 use Rattle.atomic_table.specs.Table.{State}
 use Rattle.atomic_table.proofs.Lists.{at_set}
@@ -12,7 +10,7 @@ use Rattle.flight_table.specs.declared.rule.Role.{Role}
 use Rattle.flight_table.specs.declared.rule.Role.TheVariants.{Owns, Takes, Spent}
 use Rattle.flight_table.specs.declared.rule.FlightView.{FlightView}
 use Rattle.flight_table.specs.View.{look, times, new_hand}
-use Rattle.flight_table.specs.Rule.{Slot, Home, Cell, held, ready, taken, done, back, Lies, SlotOk, is_done, dones, SeatOk, InFlight}
+use Rattle.flight_table.specs.Rule.{Slot, Cell, held, ready, taken, done, back, Lies, SlotOk, is_done, dones, SeatOk, InFlight}
 use Rattle.flight_table.proofs.Puts.{put, at_put, put_here, put_else, is_none}
 use Rattle.flight_table.proofs.Cells.{dones_put}
 
@@ -74,9 +72,9 @@ module _ (about : BookData) (s : St) (r : InFlight about s) (id k new : ℕ) (c 
         each_slot = λ j lt. at_put r.cells k c (λ i x. j ≡ i → SlotOk about i o' r.hand (get_or (set s.words k new) i 0) (get_elem? homes' i) x) j
             (λ _. subst (λ (n : ℕ). SlotOk about k o' r.hand n (get_elem? homes' k) c) (sym (get_or-set_same s.words k new 0 (let w = r.wide in omega arith))) (ok is))
             (λ ne _. let was = r.each_slot j (let l = long in omega arith) in
-                let kept = slot_on about j r.o o' r.hand r.hand (get_or s.words j 0) (get_elem? s.homes j) (r.cells j) (given' j ne ∙ ap (λ z. look z.given j) mine.1)
-                    (λ x. absurd (out j ne (ap (λ z. z.out) mine.1 ∙ x))) (λ x. absurd (out' j ne x)) (λ _. refl) (λ _ x. x) was in
-                subst (λ (z : ℕ × maybe.Option (maybe.Option Slot)). SlotOk about j o' r.hand z.0 z.1 (r.cells j)) (λ i. (sym (get_or-set_other s.words k j new 0 ne) i, sym (home j ne) i)) kept)
+            let kept = slot_on about j r.o o' r.hand r.hand (get_or s.words j 0) (get_elem? s.homes j) (r.cells j) (given' j ne ∙ ap (λ z. look z.given j) mine.1)
+            (λ x. absurd (out j ne (ap (λ z. z.out) mine.1 ∙ x))) (λ x. absurd (out' j ne x)) (λ _. refl) (λ _ x. x) was in
+            subst (λ (z : ℕ × maybe.Option (maybe.Option Slot)). SlotOk about j o' r.hand z.0 z.1 (r.cells j)) (λ i. (sym (get_or-set_other s.words k j new 0 ne) i, sym (home j ne) i)) kept)
             refl;
         counted = λ w. let a = counts w in let b = r.counted w in let d = dones_put w r.cells k c (length s.homes) near in let x : times w v.collected ≡ times w r.o.collected = ap (λ z. times w z.collected) mine.1 in
             let l : dones w (put r.cells k c) (length homes') ≡ dones w (put r.cells k c) (length s.homes) = ap (dones w (put r.cells k c)) long in omega (arith, a, b, d, x, l);
@@ -112,16 +110,16 @@ module _ (about : BookData) (s : St) (r : InFlight about s) (id k new : ℕ) (c 
         wide = length-set s.words k new ∙ r.wide ∙ sym long;
         each_seat = λ j u e. ⊎_elim
             (λ (x : (j ≡ id) × (h ≡ u)). subst (λ (y : ℕ × FlightView). SeatOk r.owner r.o r.seat_of hand' y.0 y.1 y.1.role) (λ i. (sym x.0 i, x.1 i))
-                (subst (SeatOk r.owner r.o r.seat_of hand' id h) (sym role') (subst (λ (n : ℕ). n < r.o.made) (sym worker') mine.0, mine.1 ∙ ap r.seat_of (sym worker'), sym here ∙ ap hand' (sym worker'), ap (look r.o.gathered) worker' ∙ mine.3)))
+            (subst (SeatOk r.owner r.o r.seat_of hand' id h) (sym role') (subst (λ (n : ℕ). n < r.o.made) (sym worker') mine.0, mine.1 ∙ ap r.seat_of (sym worker'), sym here ∙ ap hand' (sym worker'), ap (look r.o.gathered) worker' ∙ mine.3)))
             (λ (x : (j ≢ id) × (get_elem? s.views j ≡ some u)). others j u u.role x.0 mine.1 (r.each_seat j u x.1))
             (at_set s.views id j h u e);
         each_slot = λ j lt. at_put r.cells k c (λ i x. j ≡ i → SlotOk about i r.o hand' (get_or (set s.words k new) i 0) (get_elem? homes' i) x) j
             (λ _. subst (λ (n : ℕ). SlotOk about k r.o hand' n (get_elem? homes' k) c) (sym (get_or-set_same s.words k new 0 (let w = r.wide in omega arith))) (ok is))
             (λ ne _. let was = r.each_slot j (let l = long in omega arith) in
-                let kept = slot_on about j r.o r.o r.hand hand' (get_or s.words j 0) (get_elem? s.homes j) (r.cells j) refl (λ x. x) (λ x. (x, refl))
-                    (λ w. at_put r.hand v.worker h (λ i x. look x.taken j ≡ look (r.hand i).taken j) w (taken' j ne ∙ ap (λ z. look z.taken j) mine.2) (λ _. refl))
-                    (λ w. at_put r.hand v.worker h (λ i x. (r.hand i).out ≡ Some j → x.out ≡ Some j) w (λ x. absurd (out j ne (ap (λ z. z.out) mine.2 ∙ x))) (λ _ x. x)) was in
-                subst (λ (z : ℕ × maybe.Option (maybe.Option Slot)). SlotOk about j r.o hand' z.0 z.1 (r.cells j)) (λ i. (sym (get_or-set_other s.words k j new 0 ne) i, sym (home j ne) i)) kept)
+            let kept = slot_on about j r.o r.o r.hand hand' (get_or s.words j 0) (get_elem? s.homes j) (r.cells j) refl (λ x. x) (λ x. (x, refl))
+            (λ w. at_put r.hand v.worker h (λ i x. look x.taken j ≡ look (r.hand i).taken j) w (taken' j ne ∙ ap (λ z. look z.taken j) mine.2) (λ _. refl))
+            (λ w. at_put r.hand v.worker h (λ i x. (r.hand i).out ≡ Some j → x.out ≡ Some j) w (λ x. absurd (out j ne (ap (λ z. z.out) mine.2 ∙ x))) (λ _ x. x)) was in
+            subst (λ (z : ℕ × maybe.Option (maybe.Option Slot)). SlotOk about j r.o hand' z.0 z.1 (r.cells j)) (λ i. (sym (get_or-set_other s.words k j new 0 ne) i, sym (home j ne) i)) kept)
             refl;
         counted = λ w. let a = counts w in let b = r.counted w in let d = dones_put w r.cells k c (length s.homes) near in
             let l : dones w (put r.cells k c) (length homes') ≡ dones w (put r.cells k c) (length s.homes) = ap (dones w (put r.cells k c)) long in omega (arith, a, b, d, l);

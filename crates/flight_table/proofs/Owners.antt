@@ -1,25 +1,23 @@
 -- Each kind of step of the owner keeps the rule.
-use Rattle.std.proofs.Common.{◌≡◌, ◌≢◌, ◌⊎◌, ℕ, zero, suc, ◌+◌, ◌*◌, ◌/◌, ◌%◌, ◌<◌, ◌≤◌, eqb, List, [], ◌∷◌, length, map, replicate, set, get_or, inl, inr, refl, sym, ap, ◌∙◌, subst, ⊎_elim, arith, length-set, Option, Some, None}
-use Rattle.std.proofs.lemmas.List.{length-map, length-replicate}
+use Rattle.std.proofs.Common.{◌≡◌, ℕ, ◌+◌, ◌<◌, eqb, [], ◌∷◌, length, set, get_or, inl, inr, refl, sym, ap, ◌∙◌, subst, ⊎_elim, arith, length-set, Option, Some, None}
 use native.Mathlib.Decide.{ℕ_discrete}
 use mathlib.Core.Logic.{dite}
 use mathlib.Core.Option.{some, some-injective, some-ne-none}
 use mathlib.Core.Option as maybe
 use prog.Atomic.{either}
 use lib.ListN.{get_elem?}
-use Rattle.atomic_table.specs.Table.{Me, opening, step, keeps, takes, gives, Allows, Splits, Joins, rest}
-use Rattle.atomic_table.proofs.Lists.{at_set, set_here, set_else, exchanged}
+use Rattle.atomic_table.specs.Table.{step, keeps, takes, gives, Allows}
+use Rattle.atomic_table.proofs.Lists.{set_here, set_else, exchanged}
 use Rattle.flight_table.specs.Note.{BookData}
 use Rattle.flight_table.specs.declared.word.Phase.TheVariants.{Held, Ready, Done, Back}
-use Rattle.flight_table.specs.declared.rule.Role.{Role}
-use Rattle.flight_table.specs.declared.rule.Role.TheVariants.{Owns, Takes, Spent}
+use Rattle.flight_table.specs.declared.rule.Role.TheVariants.{Owns}
 use Rattle.flight_table.specs.declared.rule.Sent.{Sent}
 use Rattle.flight_table.specs.declared.rule.FlightView.{FlightView}
 use Rattle.flight_table.specs.Word.{word, packed, unpacked}
-use Rattle.flight_table.specs.View.{look, sent, times, opened, new_hand, looked, grabbed, at_home, published, gained, regained, made_one, joined, spent}
-use Rattle.flight_table.specs.Rule.{Flying, Slot, HasSome, Cell, held, ready, taken, done, back, word_of, due, IsOwners, Waiting, Finished, SlotOk, is_done, dones, SeatOk, InFlight}
-use Rattle.flight_table.specs.Call.{M, Shown, ShownAs, IsPacked, HoldsAll, rests, grabs, publishes, sees, lifts, gains, regains, recalls, settles}
-use Rattle.flight_table.proofs.Puts.{put, put_here, put_else, look_here, look_else, times_here, times_else, at_snoc_here, idle, elsewhere, is_none, some_same}
+use Rattle.flight_table.specs.View.{look, sent, times, looked, grabbed, at_home, published, gained, regained}
+use Rattle.flight_table.specs.Rule.{Flying, HasSome, held, ready, done, back, word_of, due, IsOwners, Waiting, Finished, SlotOk, is_done, InFlight}
+use Rattle.flight_table.specs.Call.{M, Shown, ShownAs, IsPacked, rests, grabs, publishes, sees, lifts, gains, regains, recalls, settles}
+use Rattle.flight_table.proofs.Puts.{look_here, look_else, times_here, times_else, idle, elsewhere}
 use Rattle.flight_table.proofs.Cells.{reads, says, is_packed, is_ready, is_held, is_held_word, is_done_word, is_back_word, phase_same, done_here, done_else, no_dones, shown_as, lies_out}
 use Rattle.flight_table.proofs.Moves.{St, slot_on, owner_moves}
 use Rattle.flight_table.proofs.Steps.{Goes, known_owner}
@@ -57,16 +55,16 @@ module _ (about : BookData) (n id k : ℕ) (v : FlightView) (near : k < n) where
       let ok = r.each_slot k close in
       let o' = grabbed (looked v k (unpacked m)) k (unpacked m) in
       owner_moves about s r id k m (r.cells k) (set s.homes k maybe.none) v o' at role close (length-set s.homes k maybe.none) (λ j ne. set_else s.homes k j maybe.none ne) role refl refl refl
-          (λ j ne. refl) (λ j ne. idle v.out j home) (λ j ne. elsewhere (Some k) k j refl ne)
-          (λ _. record {
-            shows = ok.shows;
-            small = ok.small;
-            given = ap (λ z. look z.given k) (sym is) ∙ ok.given;
-            listed = ok.listed;
-            lies = lies_out about k o' r.hand (get_elem? (set s.homes k maybe.none) k) (r.cells k) owns refl;
-            marked = λ o. (owns, says (r.cells k) m ok.shows ok.small);
-          })
-          (λ w. refl)
+      (λ j ne. refl) (λ j ne. idle v.out j home) (λ j ne. elsewhere (Some k) k j refl ne)
+      (λ _. record {
+        shows = ok.shows;
+        small = ok.small;
+        given = ap (λ z. look z.given k) (sym is) ∙ ok.given;
+        listed = ok.listed;
+        lies = lies_out about k o' r.hand (get_elem? (set s.homes k maybe.none) k) (r.cells k) owns refl;
+        marked = λ o. (owns, says (r.cells k) m ok.shows ok.small);
+      })
+      (λ w. refl)
 
   -- the owner looks for what is done
   pub owner_finds_done : v.role ≡ Owns → v.out ≡ None → Allows (InFlight about) n id (v, []) k (λ m. m) (lifts Done Finished (step n k 0 0 maybe.none) (v, []))
@@ -78,19 +76,19 @@ module _ (about : BookData) (n id k : ℕ) (v : FlightView) (near : k < n) where
       let t = seen s r at role close in
       dite (phase_same (unpacked m).phase Done)
       (λ hit.
-          let says₀ = says (r.cells k) m ok₀.shows ok₀.small in
-          let c = is_done_word (r.cells k) (ap (λ z. z.phase) (sym says₀) ∙ hit) in
-          let p = (word_of (r.cells k)).number in
-          let w = (word_of (r.cells k)).worker in
-          let ok : SlotOk about k r.o r.hand m (get_elem? s.homes k) (done p w) = subst (SlotOk about k r.o r.hand m (get_elem? s.homes k)) c ok₀ in
-          let x = ⊎_elim {C = HasSome (get_elem? s.homes k) (Finished about p)} (λ y. y) (λ y. absurd (idle v.out k home (ap (λ z. z.out) (sym is) ∙ y))) ok.lies in
-          let ours : v.about ≡ about = ap (λ z. z.about) (sym is) ∙ r.o_about in (
-            grabbed (looked v k (unpacked m)) k (unpacked m),
-            takes k (Some x.0),
-            x.1,
-            lift_on s r x.0 at role home close (subst IsOwners (sym c) tt),
-            (t.0, t.1, (λ _. (x.0, sent p w, ap (λ z. look z.given k) (sym is) ∙ ok.given, says₀ ∙ ap word_of c, subst (λ z. Finished z p x.0) (sym ours) x.2, refl)), λ ne. absurd (ne hit)),
-          ))
+      let says₀ = says (r.cells k) m ok₀.shows ok₀.small in
+      let c = is_done_word (r.cells k) (ap (λ z. z.phase) (sym says₀) ∙ hit) in
+      let p = (word_of (r.cells k)).number in
+      let w = (word_of (r.cells k)).worker in
+      let ok : SlotOk about k r.o r.hand m (get_elem? s.homes k) (done p w) = subst (SlotOk about k r.o r.hand m (get_elem? s.homes k)) c ok₀ in
+      let x = ⊎_elim {C = HasSome (get_elem? s.homes k) (Finished about p)} (λ y. y) (λ y. absurd (idle v.out k home (ap (λ z. z.out) (sym is) ∙ y))) ok.lies in
+      let ours : v.about ≡ about = ap (λ z. z.about) (sym is) ∙ r.o_about in (
+        grabbed (looked v k (unpacked m)) k (unpacked m),
+        takes k (Some x.0),
+        x.1,
+        lift_on s r x.0 at role home close (subst IsOwners (sym c) tt),
+        (t.0, t.1, (λ _. (x.0, sent p w, ap (λ z. look z.given k) (sym is) ∙ ok.given, says₀ ∙ ap word_of c, subst (λ z. Finished z p x.0) (sym ours) x.2, refl)), λ ne. absurd (ne hit)),
+      ))
       (λ miss. let u = owner_sees role home s r wide at fit in (u.0, u.1, u.2, u.3, (t.0, t.1, (λ e. absurd (miss e)), λ _. u.4.2)))
 
   -- the owner looks for what was given back
@@ -103,19 +101,19 @@ module _ (about : BookData) (n id k : ℕ) (v : FlightView) (near : k < n) where
       let t = seen s r at role close in
       dite (phase_same (unpacked m).phase Back)
       (λ hit.
-          let says₀ = says (r.cells k) m ok₀.shows ok₀.small in
-          let c = is_back_word (r.cells k) (ap (λ z. z.phase) (sym says₀) ∙ hit) in
-          let p = (word_of (r.cells k)).number in
-          let w = (word_of (r.cells k)).worker in
-          let ok : SlotOk about k r.o r.hand m (get_elem? s.homes k) (back p w) = subst (SlotOk about k r.o r.hand m (get_elem? s.homes k)) c ok₀ in
-          let x = ⊎_elim {C = HasSome (get_elem? s.homes k) (Waiting about p)} (λ y. y) (λ y. absurd (idle v.out k home (ap (λ z. z.out) (sym is) ∙ y))) ok.lies in
-          let ours : v.about ≡ about = ap (λ z. z.about) (sym is) ∙ r.o_about in (
-            grabbed (looked v k (unpacked m)) k (unpacked m),
-            takes k (Some x.0),
-            x.1,
-            lift_on s r x.0 at role home close (subst IsOwners (sym c) tt),
-            (t.0, t.1, (λ _. (x.0, sent p w, ap (λ z. look z.given k) (sym is) ∙ ok.given, says₀ ∙ ap word_of c, subst (λ z. Waiting z p x.0) (sym ours) x.2, refl)), λ ne. absurd (ne hit)),
-          ))
+      let says₀ = says (r.cells k) m ok₀.shows ok₀.small in
+      let c = is_back_word (r.cells k) (ap (λ z. z.phase) (sym says₀) ∙ hit) in
+      let p = (word_of (r.cells k)).number in
+      let w = (word_of (r.cells k)).worker in
+      let ok : SlotOk about k r.o r.hand m (get_elem? s.homes k) (back p w) = subst (SlotOk about k r.o r.hand m (get_elem? s.homes k)) c ok₀ in
+      let x = ⊎_elim {C = HasSome (get_elem? s.homes k) (Waiting about p)} (λ y. y) (λ y. absurd (idle v.out k home (ap (λ z. z.out) (sym is) ∙ y))) ok.lies in
+      let ours : v.about ≡ about = ap (λ z. z.about) (sym is) ∙ r.o_about in (
+        grabbed (looked v k (unpacked m)) k (unpacked m),
+        takes k (Some x.0),
+        x.1,
+        lift_on s r x.0 at role home close (subst IsOwners (sym c) tt),
+        (t.0, t.1, (λ _. (x.0, sent p w, ap (λ z. look z.given k) (sym is) ∙ ok.given, says₀ ∙ ap word_of c, subst (λ z. Waiting z p x.0) (sym ours) x.2, refl)), λ ne. absurd (ne hit)),
+      ))
       (λ miss. let u = owner_sees role home s r wide at fit in (u.0, u.1, u.2, u.3, (t.0, t.1, (λ e. absurd (miss e)), λ _. u.4.2)))
 
   -- the owner holds the slot of what was done
@@ -146,9 +144,9 @@ module _ (about : BookData) (n id k : ℕ) (v : FlightView) (near : k < n) where
               marked = λ o. absurd (idle None k refl o);
             })
             (λ u. dite (ℕ_discrete u w)
-                (λ e. let a : is_done u (r.cells k) ≡ 1 = ap (is_done u) c' ∙ subst (λ (z : ℕ). is_done z (done p w) ≡ 1) (sym e) (done_here p w) in
-                    let b : times u o'.collected ≡ times u v.collected + 1 = subst (λ (z : ℕ). times z o'.collected ≡ times z v.collected + 1) (sym e) (times_here w v.collected) in omega (arith, a, b))
-                (λ ne. let a : is_done u (r.cells k) ≡ 0 = ap (is_done u) c' ∙ done_else p w u ne in let b : times u o'.collected ≡ times u v.collected = times_else w u v.collected ne in omega (arith, a, b))),
+            (λ e. let a : is_done u (r.cells k) ≡ 1 = ap (is_done u) c' ∙ subst (λ (z : ℕ). is_done z (done p w) ≡ 1) (sym e) (done_here p w) in
+            let b : times u o'.collected ≡ times u v.collected + 1 = subst (λ (z : ℕ). times z o'.collected ≡ times z v.collected + 1) (sym e) (times_here w v.collected) in omega (arith, a, b))
+            (λ ne. let a : is_done u (r.cells k) ≡ 0 = ap (is_done u) c' ∙ done_else p w u ne in let b : times u o'.collected ≡ times u v.collected = times_else w u v.collected ne in omega (arith, a, b))),
         refl,
       ))
 
@@ -184,30 +182,30 @@ module _ (about : BookData) (n id k : ℕ) (v : FlightView) (near : k < n) where
   pub owner_recalls : (p w old : ℕ) → v.role ≡ Owns → v.out ≡ None → w < 8 → old ≡ packed (word Ready p w) → Allows (InFlight about) n id (v, []) k (λ m. either (eqb m old) 1 m) (recalls (step n k old 1 maybe.none) (v, []))
   owner_recalls p w old role home few was s r wide at fit = let m : ℕ = get_or s.words k 0 in exchanged m old 1 (Goes about s k id (v, []) (recalls (step n k old 1 maybe.none) (v, []) m))
       (λ e.
-          let close : k < length s.homes = omega arith in
-          let is = known_owner about s r id v at role in
-          let ok₀ = r.each_slot k close in
-          let c = is_ready (r.cells k) p w (sym (says (r.cells k) m ok₀.shows ok₀.small) ∙ ap unpacked (e ∙ was) ∙ reads (word Ready p w) few) in
-          let ok : SlotOk about k r.o r.hand m (get_elem? s.homes k) (ready p w) = subst (SlotOk about k r.o r.hand m (get_elem? s.homes k)) c ok₀ in
-          let x = ok.lies in
-          let ours : v.about ≡ about = ap (λ z. z.about) (sym is) ∙ r.o_about in
-          let o' = grabbed (regained v k) k (word Held 0 0) in (
-            o',
-            takes k (Some x.0),
-            x.1,
-            owner_moves about s r id k 1 held (set s.homes k maybe.none) v o' at role close (length-set s.homes k maybe.none) (λ j ne. set_else s.homes k j maybe.none ne) role refl refl refl
-                (λ j ne. look_else k None j v.given ne) (λ j ne. idle v.out j home) (λ j ne. elsewhere (Some k) k j refl ne)
-                (λ _. record {
-                  shows = refl;
-                  small = omega arith;
-                  given = look_here k None v.given;
-                  listed = ok.listed;
-                  lies = inr refl;
-                  marked = λ o. (tt, refl);
-                })
-                (λ u. let a : is_done u (r.cells k) ≡ 0 = ap (is_done u) c in omega (arith, a)),
-            ((λ _. (x.0, sent p w, ap (λ z. look z.given k) (sym is) ∙ ok.given, subst (λ z. Waiting z p x.0) (sym ours) x.2, refl)), λ ne. absurd (ne e)),
-          ))
+      let close : k < length s.homes = omega arith in
+      let is = known_owner about s r id v at role in
+      let ok₀ = r.each_slot k close in
+      let c = is_ready (r.cells k) p w (sym (says (r.cells k) m ok₀.shows ok₀.small) ∙ ap unpacked (e ∙ was) ∙ reads (word Ready p w) few) in
+      let ok : SlotOk about k r.o r.hand m (get_elem? s.homes k) (ready p w) = subst (SlotOk about k r.o r.hand m (get_elem? s.homes k)) c ok₀ in
+      let x = ok.lies in
+      let ours : v.about ≡ about = ap (λ z. z.about) (sym is) ∙ r.o_about in
+      let o' = grabbed (regained v k) k (word Held 0 0) in (
+        o',
+        takes k (Some x.0),
+        x.1,
+        owner_moves about s r id k 1 held (set s.homes k maybe.none) v o' at role close (length-set s.homes k maybe.none) (λ j ne. set_else s.homes k j maybe.none ne) role refl refl refl
+            (λ j ne. look_else k None j v.given ne) (λ j ne. idle v.out j home) (λ j ne. elsewhere (Some k) k j refl ne)
+            (λ _. record {
+              shows = refl;
+              small = omega arith;
+              given = look_here k None v.given;
+              listed = ok.listed;
+              lies = inr refl;
+              marked = λ o. (tt, refl);
+            })
+            (λ u. let a : is_done u (r.cells k) ≡ 0 = ap (is_done u) c in omega (arith, a)),
+        ((λ _. (x.0, sent p w, ap (λ z. look z.given k) (sym is) ∙ ok.given, subst (λ z. Waiting z p x.0) (sym ours) x.2, refl)), λ ne. absurd (ne e)),
+      ))
       (λ ne. let t = owner_finds_back role home s r wide at fit in (t.0, t.1, t.2, t.3, ((λ e. absurd (ne e)), λ _. t.4)))
 
   -- a slot that the owner holds comes home
@@ -307,12 +305,15 @@ owner_settles about n id k v near role home s r wide at _ =
       owner_moves about s r id k m (r.cells k) s.homes v v at role close refl (λ _ _. refl) role refl refl refl (λ _ _. refl) (λ j _. idle v.out j home) (λ j _. idle v.out j home)
           (λ _. subst (λ z. SlotOk about k z r.hand m (get_elem? s.homes k) (r.cells k)) is (r.each_slot k close))
           (λ w. refl),
-      (refl, λ all w c e.
-          let g = r.gathers w c (ap (λ z. look z.gathered w) is ∙ e) in
-          let d = no_dones w r.cells (length s.homes) (λ j lt. is_held (r.cells j) (sym (r.each_slot j lt).given ∙ ap (λ z. look z.given j) is ∙ all j (omega arith))) in
-          let b : times w v.collected ≡ times w r.o.collected = ap (λ z. times w z.collected) (sym is) in
-          let a = r.counted w in
-          omega (arith, g, d, a, b)),
+      (
+        refl,
+        λ all w c e.
+            let g = r.gathers w c (ap (λ z. look z.gathered w) is ∙ e) in
+            let d = no_dones w r.cells (length s.homes) (λ j lt. is_held (r.cells j) (sym (r.each_slot j lt).given ∙ ap (λ z. look z.given j) is ∙ all j (omega arith))) in
+            let b : times w v.collected ≡ times w r.o.collected = ap (λ z. times w z.collected) (sym is) in
+            let a = r.counted w in
+            omega (arith, g, d, a, b),
+      ),
     )
 
 -- the same at a seat that is known

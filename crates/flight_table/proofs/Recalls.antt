@@ -1,6 +1,6 @@
 -- What the exits of a recall rest on.
-use Rattle.std.proofs.Common.{◌≡◌, ◌≢◌, ℕ, ◌<◌, Bool, true, false, true≢false, List, [], ◌∷◌, refl, sym, ap, ◌∙◌, subst, arith, Option, Some, None}
-use Rattle.flight_table.specs.declared.word.Phase.TheVariants.{Held, Ready}
+use Rattle.std.proofs.Common.{◌≡◌, ◌≢◌, ℕ, Bool, true, false, true≢false, List, [], ◌∷◌, refl, sym, ap, ◌∙◌, subst, arith, Option, Some, None}
+use Rattle.flight_table.specs.declared.word.Phase.TheVariants.{Ready}
 use Rattle.flight_table.specs.declared.word.Word.{Word}
 use Rattle.flight_table.specs.declared.rule.Sent.{Sent}
 use Rattle.flight_table.specs.Word.{word, code, packed, unpacked}

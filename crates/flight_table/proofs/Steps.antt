@@ -1,10 +1,10 @@
 -- Each kind of step of a hand keeps the rule.
-use Rattle.std.proofs.Common.{◌≡◌, ◌≢◌, ◌⊎◌, ℕ, zero, suc, ◌+◌, ◌*◌, ◌/◌, ◌<◌, ◌≤◌, eqb, List, [], ◌∷◌, length, set, get_or, inl, inr, refl, sym, ap, ◌∙◌, subst, ⊎_elim, arith, length-set, Option, Some, None}
+use Rattle.std.proofs.Common.{◌≡◌, ◌≢◌, ℕ, ◌+◌, ◌<◌, eqb, [], ◌∷◌, length, set, get_or, inl, inr, refl, sym, ap, ◌∙◌, subst, ⊎_elim, arith, length-set, Some, None}
 use mathlib.Core.Option.{some}
 use mathlib.Core.Option as maybe
 use prog.Atomic.{either}
 use lib.ListN.{get_elem?}
-use Rattle.atomic_table.specs.Table.{Me, Act, Valid, stepped, carried_after, step, keeps, takes, gives, Allows, rest}
+use Rattle.atomic_table.specs.Table.{Act, Valid, stepped, carried_after, step, keeps, takes, gives, Allows}
 use Rattle.atomic_table.proofs.Lists.{set_here, set_else, exchanged}
 use Rattle.flight_table.specs.Note.{BookData}
 use Rattle.flight_table.specs.declared.word.Phase.TheVariants.{Ready, Taken, Done, Back}
@@ -12,7 +12,7 @@ use Rattle.flight_table.specs.declared.rule.Role.TheVariants.{Owns, Takes}
 use Rattle.flight_table.specs.declared.rule.FlightView.{FlightView}
 use Rattle.flight_table.specs.Word.{word, packed, unpacked}
 use Rattle.flight_table.specs.View.{look, looked, grabbed, at_home, listed, unlisted, ended}
-use Rattle.flight_table.specs.Rule.{Flying, Slot, Cell, held, ready, taken, done, back, word_of, listing, Waiting, Finished, SlotOk, is_done, SeatOk, InFlight}
+use Rattle.flight_table.specs.Rule.{Flying, Slot, Cell, ready, taken, done, back, listing, Waiting, Finished, SlotOk, is_done, SeatOk, InFlight}
 use Rattle.flight_table.specs.Call.{M, looks, takes_one, rests, grabs, finishes, gives_back}
 use Rattle.flight_table.proofs.Puts.{put, at_put, put_here, look_here, look_else, idle, elsewhere}
 use Rattle.flight_table.proofs.Cells.{reads, says, is_packed, is_ready, is_taken, listing_here, listing_else, done_here, done_else}
@@ -51,9 +51,9 @@ module _ (about : BookData) (n id k : ℕ) (v : FlightView) (near : k < n) where
     tt,
     hand_moves about s r id k m (r.cells k) s.homes v h at role close refl (λ _ _. refl) role refl refl (λ _ _. refl) (λ j _. idle v.out j home)
         (λ _. slot_on about k r.o r.o r.hand (put r.hand v.worker h) m (get_elem? s.homes k) (r.cells k) refl (λ x. x) (λ x. (x, refl))
-            (λ w. at_put r.hand v.worker h (λ i x. look x.taken k ≡ look (r.hand i).taken k) w (ap (λ z. look z.taken k) (sym is)) (λ _. refl))
-            (λ w. at_put r.hand v.worker h (λ i x. (r.hand i).out ≡ Some k → x.out ≡ Some k) w (λ x. ap (λ z. z.out) (sym is) ∙ x) (λ _ x. x))
-            ok)
+        (λ w. at_put r.hand v.worker h (λ i x. look x.taken k ≡ look (r.hand i).taken k) w (ap (λ z. look z.taken k) (sym is)) (λ _. refl))
+        (λ w. at_put r.hand v.worker h (λ i x. (r.hand i).out ≡ Some k → x.out ≡ Some k) w (λ x. ap (λ z. z.out) (sym is) ∙ x) (λ _ x. x))
+        ok)
         (steady r.hand v h (r.cells k) (r.cells k) is refl (λ _. refl)),
     (refl, is_packed (r.cells k) m ok.shows ok.small),
   )
@@ -62,32 +62,32 @@ module _ (about : BookData) (n id k : ℕ) (v : FlightView) (near : k < n) where
   pub hand_takes : (p old new : ℕ) → v.role ≡ Takes → v.out ≡ None → v.worker < 8 → old ≡ packed (word Ready p v.worker) → new ≡ packed (word Taken p v.worker) → Allows (InFlight about) n id (v, []) k (λ m. either (eqb m old) new m) (takes_one (step n k old new maybe.none) (v, []))
   hand_takes p old new role home few was then s r wide at fit = let m : ℕ = get_or s.words k 0 in exchanged m old new (Goes about s k id (v, []) (takes_one (step n k old new maybe.none) (v, []) m))
       (λ e.
-          let close : k < length s.homes = omega arith in
-          let is = known_hand about s r id v at role in
-          let ok₀ = r.each_slot k close in
-          let w₀ : unpacked m ≡ word Ready p v.worker = ap unpacked (e ∙ was) ∙ reads (word Ready p v.worker) few in
-          let c = is_ready (r.cells k) p v.worker (sym (says (r.cells k) m ok₀.shows ok₀.small) ∙ w₀) in
-          let ok : SlotOk about k r.o r.hand m (get_elem? s.homes k) (ready p v.worker) = subst (SlotOk about k r.o r.hand m (get_elem? s.homes k)) c ok₀ in
-          let x = ok.lies in
-          let number : (unpacked m).number ≡ p = ap (λ z. z.number) w₀ in
-          let h = grabbed (listed v k (unpacked m).number) k (unpacked m) in
-          let ours : v.about ≡ about = ap (λ z. z.about) (sym is) ∙ (r.hand_about v.worker).0 in (
-            h,
-            takes k (Some x.0),
-            x.1,
-            hand_moves about s r id k new (taken p v.worker) (set s.homes k maybe.none) v h at role close (length-set s.homes k maybe.none) (λ j ne. set_else s.homes k j maybe.none ne) role refl refl
-                (λ j ne. look_else k (Some (unpacked m).number) j v.taken ne) (λ j _. idle v.out j home)
-                (λ _. record {
-                  shows = then;
-                  small = few;
-                  given = ok.given;
-                  listed = lists_at r.hand k v h (ready p v.worker) (taken p v.worker) ok.listed (look_here k (Some (unpacked m).number) v.taken ∙ ap Some number ∙ sym (listing_here p v.worker)) (λ w ne. sym (listing_else p v.worker w ne));
-                  lies = inr (ap (λ z. z.out) (put_here r.hand v.worker h));
-                  marked = λ o. absurd (ok.marked o).0;
-                })
-                (steady r.hand v h (r.cells k) (taken p v.worker) is refl (λ w. ap (is_done w) c)),
-            ((λ _. (x.0, refl, subst (λ (z : BookData × ℕ). Waiting z.0 z.1 x.0) (λ i. (sym ours i, sym number i)) x.2, ap (λ z. look z.taken k) (sym is) ∙ ok.listed v.worker)), λ ne. absurd (ne e)),
-          ))
+      let close : k < length s.homes = omega arith in
+      let is = known_hand about s r id v at role in
+      let ok₀ = r.each_slot k close in
+      let w₀ : unpacked m ≡ word Ready p v.worker = ap unpacked (e ∙ was) ∙ reads (word Ready p v.worker) few in
+      let c = is_ready (r.cells k) p v.worker (sym (says (r.cells k) m ok₀.shows ok₀.small) ∙ w₀) in
+      let ok : SlotOk about k r.o r.hand m (get_elem? s.homes k) (ready p v.worker) = subst (SlotOk about k r.o r.hand m (get_elem? s.homes k)) c ok₀ in
+      let x = ok.lies in
+      let number : (unpacked m).number ≡ p = ap (λ z. z.number) w₀ in
+      let h = grabbed (listed v k (unpacked m).number) k (unpacked m) in
+      let ours : v.about ≡ about = ap (λ z. z.about) (sym is) ∙ (r.hand_about v.worker).0 in (
+        h,
+        takes k (Some x.0),
+        x.1,
+        hand_moves about s r id k new (taken p v.worker) (set s.homes k maybe.none) v h at role close (length-set s.homes k maybe.none) (λ j ne. set_else s.homes k j maybe.none ne) role refl refl
+            (λ j ne. look_else k (Some (unpacked m).number) j v.taken ne) (λ j _. idle v.out j home)
+            (λ _. record {
+              shows = then;
+              small = few;
+              given = ok.given;
+              listed = lists_at r.hand k v h (ready p v.worker) (taken p v.worker) ok.listed (look_here k (Some (unpacked m).number) v.taken ∙ ap Some number ∙ sym (listing_here p v.worker)) (λ w ne. sym (listing_else p v.worker w ne));
+              lies = inr (ap (λ z. z.out) (put_here r.hand v.worker h));
+              marked = λ o. absurd (ok.marked o).0;
+            })
+            (steady r.hand v h (r.cells k) (taken p v.worker) is refl (λ w. ap (is_done w) c)),
+        ((λ _. (x.0, refl, subst (λ (z : BookData × ℕ). Waiting z.0 z.1 x.0) (λ i. (sym ours i, sym number i)) x.2, ap (λ z. look z.taken k) (sym is) ∙ ok.listed v.worker)), λ ne. absurd (ne e)),
+      ))
       (λ ne. let t = hand_looks role home s r wide at fit in (t.0, t.1, t.2, t.3, ((λ e. absurd (ne e)), λ _. t.4)))
 
   -- the word of a slot whose number a hand lists
@@ -171,8 +171,8 @@ module _ (about : BookData) (n id k : ℕ) (v : FlightView) (near : k < n) where
               marked = λ o. absurd (ok.marked o).0;
             })
             (λ w. at_put r.hand v.worker h (λ i y. y.finished + is_done i (r.cells k) ≡ (r.hand i).finished + is_done i (done p v.worker)) w
-                (let a : is_done v.worker (r.cells k) ≡ 0 = ap (is_done v.worker) c in let b : (r.hand v.worker).finished ≡ v.finished = ap (λ z. z.finished) is in let d = done_here p v.worker in omega (arith, a, b, d))
-                (λ ne. let a : is_done w (r.cells k) ≡ 0 = ap (is_done w) c in let d = done_else p v.worker w ne in omega (arith, a, d))),
+            (let a : is_done v.worker (r.cells k) ≡ 0 = ap (is_done v.worker) c in let b : (r.hand v.worker).finished ≡ v.finished = ap (λ z. z.finished) is in let d = done_here p v.worker in omega (arith, a, b, d))
+            (λ ne. let a : is_done w (r.cells k) ≡ 0 = ap (is_done w) c in let d = done_else p v.worker w ne in omega (arith, a, d))),
         refl,
       ))
 

@@ -167,7 +167,7 @@ abbrev pub lifts : Phase → (BookData → ℕ → Flying → Type 0) → Step S
 lifts phase good s m n m' =
     Shown m.0 s.word (unpacked n) × IsPacked n
     × ((unpacked n).phase ≡ phase → (x : Flying) × (w : Sent) × (look m.0.given s.word ≡ Some w) × (unpacked n ≡ word phase w.number w.worker) × good m.0.about w.number x
-        × (m' ≡ (grabbed (looked m.0 s.word (unpacked n)) s.word (unpacked n), (s.word, Some x) ∷ m.1)))
+    × (m' ≡ (grabbed (looked m.0 s.word (unpacked n)) s.word (unpacked n), (s.word, Some x) ∷ m.1)))
     × ((unpacked n).phase ≢ phase → m' ≡ (looked m.0 s.word (unpacked n), m.1))
 
 abbrev pub gains : Step Slot → M → ℕ → M → Type 0
@@ -180,7 +180,7 @@ regains s m n m' = m' ≡ (regained m.0 s.word, rest m.1)
 abbrev pub recalls : Step Slot → M → ℕ → M → Type 0
 recalls s m n m' =
     (n ≡ s.first → (x : Flying) × (w : Sent) × (look m.0.given s.word ≡ Some w) × Waiting m.0.about w.number x
-        × (m' ≡ (grabbed (regained m.0 s.word) s.word (word Held 0 0), (s.word, Some x) ∷ m.1)))
+    × (m' ≡ (grabbed (regained m.0 s.word) s.word (word Held 0 0), (s.word, Some x) ∷ m.1)))
     × (n ≢ s.first → lifts Back Waiting s m n m')
 
 -- where the owner holds all slots, each joined hand finished as many as the owner collected of it

@@ -1,11 +1,11 @@
 -- The rule of a book: its word counts what was drawn, and each note has what stands under its number.
-use Rattle.std.specs.Prelude.{◌≡◌, ℕ, suc, List, [], ◌∷◌, ◌++◌, length, Option, Some, None, slice_get, Bool, true, false}
+use Rattle.std.specs.Prelude.{◌≡◌, ℕ, suc, List, [], ◌∷◌, ◌++◌, length, Option, Some, None, slice_get, true, false}
 use mathlib.Core.Option.{some}
 use lib.ListN.{get_elem?}
 use Rattle.atomic_table.specs.Seated.{TableId}
 use Rattle.atomic_table.specs.Table.{State, Me, Step}
 use Rattle.crypto_model.specs.Process.{Transform}
-use Rattle.crypto_op.specs.Op.{Request, made}
+use Rattle.crypto_op.specs.Op.{made}
 use Rattle.crypto_op.specs.declared.op.Op.{Op}
 use Rattle.flight_table.specs.declared.book.Drawn.{Drawn}
 use Rattle.flight_table.specs.declared.book.BookView.{BookView}

@@ -1,5 +1,5 @@
 -- The rule of a flight table, which holds between any two steps.
-use Rattle.std.specs.Prelude.{◌≡◌, ◌≢◌, ◌⊎◌, ℕ, zero, suc, ◌+◌, ◌<◌, ◌≤◌, ◌==◌, if◌then◌else◌, List, [], length, Option, Some, None, slice_index_or}
+use Rattle.std.specs.Prelude.{◌≡◌, ◌⊎◌, ℕ, zero, suc, ◌+◌, ◌<◌, ◌≤◌, ◌==◌, if◌then◌else◌, length, Option, Some, None, slice_index_or}
 use mathlib.Core.Option.{some}
 use mathlib.Core.Option as maybe
 use lib.ListN.{get_elem?}
@@ -8,7 +8,7 @@ use Rattle.crypto_op.specs.Op.{IsFresh, IsDone}
 use Rattle.crypto_op.specs.declared.op.Op.{Op}
 use Rattle.flight_table.specs.Note.{BookData, NoteData, drawn_of}
 use Rattle.flight_table.specs.Word.{word, packed}
-use Rattle.flight_table.specs.View.{look, sent, times, new_hand, opened}
+use Rattle.flight_table.specs.View.{look, sent, times, new_hand}
 use Rattle.flight_table.specs.declared.word.Phase.TheVariants.{Held, Ready, Taken, Done, Back}
 use Rattle.flight_table.specs.declared.word.Word.{Word}
 use Rattle.flight_table.specs.declared.rule.Role.{Role}

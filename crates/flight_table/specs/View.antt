@@ -1,6 +1,5 @@
 -- What the owner and the hands of a flight table know, and how that changes.
 use Rattle.std.specs.Prelude.{ℕ, ◌+◌, ◌==◌, if◌then◌else◌, List, [], ◌∷◌, ◌++◌, Option, Some, None}
-use Rattle.atomic_table.specs.Seated.{TableId}
 use Rattle.flight_table.specs.Note.{BookData}
 use Rattle.flight_table.specs.Word.{word}
 use Rattle.flight_table.specs.declared.word.Phase.TheVariants.{Free}

@@ -5,9 +5,7 @@ ghost use Rattle.flight_table.specs.Rule.{Waiting, Finished};
 ghost use Rattle.flight_table.specs.View.{look, looked, ended, unlisted};
 
 use crate::book::Note;
-use crate::rule::{
-    Berth, Deck, Finishes, FlightView, GivesBack, Grabs, Looks, Rests, TakesOne,
-};
+use crate::rule::{Berth, Deck, Finishes, FlightView, GivesBack, Grabs, Looks, Rests, TakesOne};
 use crate::word::{Phase, Word};
 use atomic_table::Seat;
 use crypto_op::Op;
@@ -73,8 +71,7 @@ impl Hand {
             return Err(Word::unpack(found));
         }
         let op = deck.shared.exchange(&mut self.seat, k, None);
-        deck.shared
-            .store::<Rests>(&mut self.seat, k, taken.pack());
+        deck.shared.store::<Rests>(&mut self.seat, k, taken.pack());
         match op {
             Some(op) => Ok(op),
             None => unreachable!(),

@@ -22,6 +22,5 @@ pub use hand::Hand;
 pub use owner::Owner;
 pub use word::{Phase, Word};
 
-
 #[cfg(test)]
 mod tests;

@@ -216,7 +216,13 @@ fn all_come_back<R: Wait>(rt: &R, mut owner: Owner, mut book: Book) -> [Option<u
     ]
 }
 
-fn run<R: Threads + Wait + Sync>(rt: &R, owner: Owner, book: Book, first: Hand, second: Hand) -> [Option<u64>; 4]
+fn run<R: Threads + Wait + Sync>(
+    rt: &R,
+    owner: Owner,
+    book: Book,
+    first: Hand,
+    second: Hand,
+) -> [Option<u64>; 4]
     requires owner { (owner.slots ≡ 4) × (owner.view.about.table ≡ book.table) }
     requires first { (first.slots ≡ 4) × (first.view.about.sessions ≡ []) }
     requires second { (second.slots ≡ 4) × (second.view.about.sessions ≡ []) }

@@ -1,4 +1,4 @@
-use Rattle.std.proofs.Common.{ap, sym, refl, ◌∙◌, ◌∷◌, [], Some, None}
+use Rattle.std.proofs.Common.{ap, sym, ◌∙◌, ◌∷◌, Some, None}
 use Rattle.atomic_table.specs.Table.{rest}
 use Rattle.flight_table.proofs.Owners.{owner_regains}
 use Rattle.flight_table.proofs.owner.regain.Goals as goal

@@ -1,4 +1,4 @@
-use Rattle.std.proofs.Common.{rules, ap, ◌<◌, ◌^◌, length, List, subst, sym, arith}
+use Rattle.std.proofs.Common.{ap, ◌<◌, ◌^◌, length, List, subst, sym, arith}
 use Rattle.flight_table.specs.Note.{drawn_of}
 use Rattle.flight_table.specs.declared.book.Drawn.{Drawn}
 use Rattle.flight_table.proofs.Entries.{adds_as}

@@ -1,6 +1,6 @@
-use Rattle.std.proofs.Common.{rules, arith, ap, sym, ◌∙◌, ◌≡◌, ◌∷◌, [], true, Some, subst, refl}
+use Rattle.std.proofs.Common.{arith, ap, sym, ◌∙◌}
 use Rattle.std.specs.Prelude.{slice_get}
-use Rattle.flight_table.specs.Note.{owner_of, note_of, entry_of, shown}
+use Rattle.flight_table.specs.Note.{entry_of, shown}
 use Rattle.flight_table.proofs.Entries.{takes_in_as, checks_as, one_view}
 use Rattle.flight_table.proofs.book.Book.meet.Goals as goal
 

@@ -1,4 +1,4 @@
-use Rattle.std.proofs.Common.{ap, refl, ◌∙◌}
+use Rattle.std.proofs.Common.{◌∙◌}
 use Rattle.flight_table.proofs.Hands.{begins}
 use Rattle.flight_table.proofs.flight.Flight.open.Goals as goal
 

@@ -1,4 +1,4 @@
-use Rattle.std.proofs.Common.{◌≡◌, ◌≤◌, []}
+use Rattle.std.proofs.Common.{◌≡◌, []}
 use Rattle.std.specs.Arc.{arc_value}
 use Rattle.flight_table.specs.View.{opened}
 use Rattle.flight_table.specs.Call.{hands_of}

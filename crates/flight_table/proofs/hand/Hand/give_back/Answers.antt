@@ -1,4 +1,4 @@
-use Rattle.std.proofs.Common.{rules, arith, ap, sym, refl, subst, ◌∙◌, ◌≡◌, ◌<◌, ◌+◌, ◌∷◌, [], Some, None, ℕ, suc}
+use Rattle.std.proofs.Common.{arith, ap, sym, refl, subst, ◌∙◌, ◌<◌, ◌∷◌, Some, ℕ}
 use Rattle.atomic_table.specs.Seated.{TableId}
 use Rattle.atomic_table.specs.Table.{rest}
 use Rattle.flight_table.specs.Note.{BookData}
@@ -30,8 +30,7 @@ store-requires c =
     let few : c.self.inside.seat.me.0.worker < 8 = subst (λ (z : ℕ). z < 8) (sym i.6) i.7 in
     let lists = ap (λ d. look d.view.taken c.args.k) c.self.view_is ∙ c.requires.slot.1 in
     let me = e.3 ∙ (λ j. ((l.2 j).0, (c.args.k, Some c.args.op) ∷ ap (λ m. rest m.1) l.2 j)) ∙ ap (λ r. (grabbed c.self.inside.seat.me.0 c.args.k (unpacked c.load.result), (c.args.k, Some c.args.op) ∷ r)) i.3 in
-    let number = c.number.ensures.number ∙ ap (λ n. n.number) c.cargo.ensures in
-    (
+    let number = c.number.ensures.number ∙ ap (λ n. n.number) c.cargo.ensures in (
       e.0 ∙ l.0 ∙ t,
       subst (λ (z : TableId). c.args.k < z.words) t (omega (arith, i.1, n, s)),
       hand_gives_back _ _ _ _ _ (subst (λ (z : TableId). c.args.k < z.slots) t (omega (arith, i.2, n, s))) c.args.op.cargo.number _ c.args.op _ me i.4 refl few lists

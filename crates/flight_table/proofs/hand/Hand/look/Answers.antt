@@ -1,4 +1,4 @@
-use Rattle.std.proofs.Common.{arith, ap, sym, subst, ◌∙◌, ◌<◌, []}
+use Rattle.std.proofs.Common.{arith, ap, sym, subst, ◌∙◌, ◌<◌}
 use Rattle.atomic_table.specs.Seated.{TableId}
 use Rattle.flight_table.proofs.Steps.{hand_looks_as}
 use Rattle.flight_table.proofs.hand.Hand.look.Goals as goal

@@ -1,10 +1,9 @@
-use Rattle.std.proofs.Common.{rules, arith, ap, sym, refl, subst, ◌∙◌, ◌≡◌, ◌<◌, ◌+◌, ◌/◌, ◌∷◌, [], Some, None, ℕ, suc}
+use Rattle.std.proofs.Common.{arith, ap, sym, refl, subst, ◌∙◌, ◌≡◌, ◌<◌, ◌∷◌, Some, None, ℕ}
 use Rattle.atomic_table.specs.Seated.{TableId}
 use Rattle.atomic_table.specs.Table.{rest}
-use Rattle.flight_table.specs.Note.{BookData}
 use Rattle.flight_table.specs.Word.{word, packed, unpacked}
-use Rattle.flight_table.specs.View.{look, grabbed, looked, listed}
-use Rattle.flight_table.specs.declared.word.Phase.TheVariants.{Ready, Taken}
+use Rattle.flight_table.specs.View.{grabbed, looked, listed}
+use Rattle.flight_table.specs.declared.word.Phase.TheVariants.{Taken}
 use Rattle.flight_table.proofs.Puts.{look_here}
 use Rattle.flight_table.proofs.Steps.{hand_looks_as, hand_takes_as, hand_rests}
 use Rattle.flight_table.proofs.hand.Hand.take.Goals as goal
@@ -30,8 +29,7 @@ compare_exchange-found-requires c =
     let few : v.worker < 8 = subst (λ (z : ℕ). z < 8) (sym i.6) i.7 in
     let read = c.unpack-first.ensures in
     let phase = ap (λ z. z.phase) (sym read) ∙ c.is.ensures.0 c.if-not-is.false in
-    let mine = ap (λ z. z.worker) (sym read) ∙ c.if-first-self.false ∙ sym is in
-    (
+    let mine = ap (λ z. z.worker) (sym read) ∙ c.if-first-self.false ∙ sym is in (
       l.0 ∙ t,
       subst (λ (z : TableId). c.args.k < z.words) t (omega (arith, i.1, n, s)),
       hand_takes_as _ _ _ _ v (subst (λ (z : TableId). c.args.k < z.slots) t (omega (arith, i.2, n, s))) _
@@ -65,8 +63,7 @@ store-requires c =
     let read = c.unpack-first.ensures in
     let v = grabbed (listed (looked c.self.inside.seat.me.0 k m) k f.number) k f in
     let me = e.3 ∙ (λ j. ((hit.1 j).0, (k, None) ∷ ap (λ y. rest y.1) hit.1 j)) ∙ (λ j. (grabbed (listed (l.2.0 j).0 k f.number) k f, (k, None) ∷ (l.2.0 j).1)) ∙ ap (λ r. (v, (k, None) ∷ r)) i.3 in
-    let number = ap (λ z. z.number) read ∙ ap (λ (z : ℕ). (unpacked z).number) (sym c.if-found-loaded.false) in
-    (
+    let number = ap (λ z. z.number) read ∙ ap (λ (z : ℕ). (unpacked z).number) (sym c.if-found-loaded.false) in (
       e.0 ∙ x.0 ∙ l.0 ∙ t,
       subst (λ (z : TableId). k < z.words) t (omega (arith, i.1, n, s)),
       hand_rests _ _ _ _ v (subst (λ (z : TableId). k < z.slots) t (omega (arith, i.2, n, s))) f.number _ _ me i.4 refl few (look_here k (Some f.number) c.self.inside.seat.me.0.taken)

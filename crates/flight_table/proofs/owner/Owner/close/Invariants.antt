@@ -1,4 +1,4 @@
-use Rattle.std.proofs.Common.{◌≡◌, ◌<◌, ◌++◌, All, List}
+use Rattle.std.proofs.Common.{◌≡◌, ◌++◌, All, List}
 use Rattle.flight_table.specs.View.{times}
 use Rattle.flight_table.specs.Call.{HoldsAll, Desk}
 use Rattle.flight_table.proofs.owner.Owner.close.Given as goal

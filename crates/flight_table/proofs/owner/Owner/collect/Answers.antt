@@ -1,4 +1,4 @@
-use Rattle.std.proofs.Common.{rules, arith, ap, sym, refl, subst, ◌∙◌, ◌≡◌, ◌<◌, ◌+◌, ◌∷◌, [], Some, None, ℕ, suc}
+use Rattle.std.proofs.Common.{arith, ap, sym, refl, subst, ◌∙◌, ◌<◌, ◌∷◌, Some, None}
 use Rattle.atomic_table.specs.Seated.{TableId}
 use Rattle.atomic_table.specs.Table.{rest}
 use Rattle.flight_table.specs.Word.{unpacked}
@@ -35,8 +35,7 @@ store-requires c =
     let m = unpacked c.load.result in
     let k = c.args.k in
     let v = grabbed (looked c.self.inside.seat.me.0 k m) k m in
-    let me = e.3 ∙ (λ j. ((hit.5 j).0, (k, None) ∷ ap (λ y. rest y.1) hit.5 j)) ∙ ap (λ r. (v, (k, None) ∷ r)) i.3 in
-    (
+    let me = e.3 ∙ (λ j. ((hit.5 j).0, (k, None) ∷ ap (λ y. rest y.1) hit.5 j)) ∙ ap (λ r. (v, (k, None) ∷ r)) i.3 in (
       e.0 ∙ l.0 ∙ t,
       subst (λ (z : TableId). k < z.words) t (omega (arith, i.1, n, s)),
       owner_gains _ _ _ _ v (subst (λ (z : TableId). k < z.slots) t (omega (arith, i.2, n, s))) _ me i.4 refl phase,

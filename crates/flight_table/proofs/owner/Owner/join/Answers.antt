@@ -1,7 +1,6 @@
-use Rattle.std.proofs.Common.{arith, rules, ap, sym, refl, subst, ◌∙◌, ◌∷◌, [], ◌≡◌, ◌<◌, suc, ℕ, Some}
+use Rattle.std.proofs.Common.{arith, ap, sym, subst, ◌∙◌, ◌<◌, Some}
 use Rattle.atomic_table.specs.Seated.{TableId}
 use Rattle.flight_table.specs.View.{joined, look, times}
-use Rattle.flight_table.specs.Call.{HoldsAll}
 use Rattle.flight_table.proofs.Puts.{look_here}
 use Rattle.flight_table.proofs.Owners.{owner_settles_as}
 use Rattle.flight_table.proofs.Hands.{owner_joins}

@@ -1,4 +1,4 @@
-use Rattle.std.proofs.Common.{arith, ap, sym, subst, ◌∙◌, ◌<◌, []}
+use Rattle.std.proofs.Common.{arith, ap, sym, subst, ◌∙◌, ◌<◌}
 use Rattle.atomic_table.specs.Seated.{TableId}
 use Rattle.flight_table.proofs.Owners.{owner_sees_as}
 use Rattle.flight_table.proofs.owner.Owner.look.Goals as goal

@@ -1,11 +1,11 @@
-use Rattle.std.proofs.Common.{arith, ap, sym, refl, subst, inl, inr, ◌∙◌, ◌≡◌, ◌<◌, ◌∷◌, [], Some, None, ℕ}
+use Rattle.std.proofs.Common.{arith, ap, sym, refl, subst, inl, inr, ◌∙◌, ◌≡◌, ◌<◌, ◌∷◌, [], Some, None}
 use Rattle.atomic_table.specs.Seated.{TableId}
 use Rattle.atomic_table.specs.Table.{rest}
 use Rattle.flight_table.specs.Word.{word, packed, unpacked}
 use Rattle.flight_table.specs.View.{look, looked, grabbed, regained, at_home}
 use Rattle.flight_table.specs.Rule.{Waiting, Flying}
 use Rattle.flight_table.specs.Call.{desk, Recalled, NotRecalled, Shown, ShownAs}
-use Rattle.flight_table.specs.declared.word.Phase.TheVariants.{Held, Ready, Back}
+use Rattle.flight_table.specs.declared.word.Phase.TheVariants.{Held}
 use Rattle.flight_table.proofs.Owners.{owner_finds_back_as, owner_recalls_as, owner_rests}
 use Rattle.flight_table.proofs.Recalls.{one_operation, was_given, not_ready, ready_word, isnt}
 use Rattle.flight_table.proofs.owner.Owner.recall.Goals as goal
@@ -66,10 +66,12 @@ compare_exchange-found-requires c =
     let m = unpacked c.load-loaded.result in
     let miss = l.2.3 (λ e. isnt c.is.result c.is.ensures.1 c.if-is.false (ap (λ z. z.phase) read ∙ e)) in
     let ready = ap (λ z. z.phase) (sym read) ∙ c.is-2.ensures.0 c.if-not-is.false in
-    let v = looked c.self.inside.seat.me.0 c.args.k m in
-    (l.0 ∙ t, subst (λ (z : TableId). c.args.k < z.words) t (omega (arith, i.1, n, s)),
+    let v = looked c.self.inside.seat.me.0 c.args.k m in (
+      l.0 ∙ t,
+      subst (λ (z : TableId). c.args.k < z.words) t (omega (arith, i.1, n, s)),
       owner_recalls_as _ _ _ _ v (subst (λ (z : TableId). c.args.k < z.slots) t (omega (arith, i.2, n, s))) _ (miss ∙ ap (λ r. (v, r)) i.3) m.number m.worker _ i.4 i.5 (omega arith)
-          (l.2.1 ∙ (λ j. packed (word (ready j) m.number m.worker))))
+          (l.2.1 ∙ (λ j. packed (word (ready j) m.number m.worker))),
+    )
 
 pub exchange-op-requires : goal.exchange-op-requires
 exchange-op-requires c =
@@ -93,9 +95,11 @@ store-requires c =
     let miss = l.2.3 (λ e. isnt c.is.result c.is.ensures.1 c.if-is.false (ap (λ z. z.phase) read ∙ e)) in
     let hit = x.2.0 c.if-found-loaded.true in
     let v = grabbed (regained (looked c.self.inside.seat.me.0 k m) k) k (word Held 0 0) in
-    let me = e.3 ∙ (λ j. ((hit.4 j).0, (k, None) ∷ ap (λ y. rest y.1) hit.4 j)) ∙ (λ j. (grabbed (regained (miss j).0 k) k (word Held 0 0), (k, None) ∷ (miss j).1)) ∙ ap (λ r. (v, (k, None) ∷ r)) i.3 in
-    (e.0 ∙ x.0 ∙ l.0 ∙ t, subst (λ (z : TableId). k < z.words) t (omega (arith, i.1, n, s)),
-      owner_rests _ _ _ _ v (subst (λ (z : TableId). k < z.slots) t (omega (arith, i.2, n, s))) _ me i.4 refl refl)
+    let me = e.3 ∙ (λ j. ((hit.4 j).0, (k, None) ∷ ap (λ y. rest y.1) hit.4 j)) ∙ (λ j. (grabbed (regained (miss j).0 k) k (word Held 0 0), (k, None) ∷ (miss j).1)) ∙ ap (λ r. (v, (k, None) ∷ r)) i.3 in (
+      e.0 ∙ x.0 ∙ l.0 ∙ t,
+      subst (λ (z : TableId). k < z.words) t (omega (arith, i.1, n, s)),
+      owner_rests _ _ _ _ v (subst (λ (z : TableId). k < z.slots) t (omega (arith, i.2, n, s))) _ me i.4 refl refl,
+    )
 
 pub returns-then-found-loaded-clause-ok : goal.returns-then-found-loaded-clause-ok
 returns-then-found-loaded-clause-ok c =

@@ -4,18 +4,21 @@ use mathlib.Core.Option.{some}
 use mathlib.Core.Option as maybe
 use lib.ListN.{get_elem?}
 use Rattle.atomic_table.specs.Table.{State}
-use Rattle.atomic_table.proofs.Lists.{at_set}
+use Rattle.atomic_table.proofs.Lists.{at_set, set_else}
 use Rattle.flight_table.specs.Note.{BookData}
 use Rattle.flight_table.specs.declared.rule.Role.{Role}
 use Rattle.flight_table.specs.declared.rule.Role.TheVariants.{Owns, Takes, Spent}
 use Rattle.flight_table.specs.declared.rule.FlightView.{FlightView}
 use Rattle.flight_table.specs.View.{look, times, new_hand}
 use Rattle.flight_table.specs.Rule.{Slot, Cell, held, ready, taken, done, back, Lies, SlotOk, is_done, dones, SeatOk, InFlight}
-use Rattle.flight_table.proofs.Puts.{put, at_put, put_here, put_else, is_none}
+use Rattle.flight_table.proofs.Puts.{put, at_put, put_here, put_else, is_none, set_got, apart_by}
 use Rattle.flight_table.proofs.Cells.{dones_put}
 
 abbrev pub St : Type 0
 St = State Slot FlightView
+
+pub takes_owns : Takes ≡ Owns → ⊥
+takes_owns e = cc
 
 abbrev pub Hands : Type 0
 Hands = ℕ → FlightView
@@ -69,6 +72,10 @@ module _ (about : BookData) (s : St) (r : InFlight about s) (id k new : ℕ) (c 
             (λ (x : (j ≡ id) × (o' ≡ u)). subst (λ (y : ℕ × FlightView). SeatOk r.owner o' r.seat_of r.hand y.0 y.1 y.1.role) (λ i. (sym x.0 i, x.1 i)) (subst (SeatOk r.owner o' r.seat_of r.hand id o') (sym role') (mine.0, refl)))
             (λ (x : (j ≢ id) × (get_elem? s.views j ≡ some u)). others j u u.role x.0 mine.0 (made' ∙ ap (λ z. z.made) mine.1) (gathered' ∙ ap (λ z. z.gathered) mine.1) (r.each_seat j u x.1))
             (at_set s.views id j o' u e);
+        has_owner = (subst (λ (j : ℕ). get_elem? (set s.views id o') j ≡ some o') mine.0 (set_got s.views id v o' at), role');
+        has_hand = λ w lt none.
+            let g = r.has_hand w (subst (λ (n : ℕ). w < n) (made' ∙ ap (λ z. z.made) mine.1) lt) (sym (ap (λ l. look l w) (gathered' ∙ ap (λ z. z.gathered) mine.1)) ∙ none) in
+            set_else s.views id (r.seat_of w) o' (apart_by (λ z. z.role) s.views (r.seat_of w) id (r.hand w) v g at (λ e. takes_owns (sym (r.hand_about w).2 ∙ e ∙ owns))) ∙ g;
         each_slot = λ j lt. at_put r.cells k c (λ i x. j ≡ i → SlotOk about i o' r.hand (get_or (set s.words k new) i 0) (get_elem? homes' i) x) j
             (λ _. subst (λ (n : ℕ). SlotOk about k o' r.hand n (get_elem? homes' k) c) (sym (get_or-set_same s.words k new 0 (let w = r.wide in omega arith))) (ok is))
             (λ ne _. let was = r.each_slot j (let l = long in omega arith) in
@@ -85,7 +92,7 @@ module _ (about : BookData) (s : St) (r : InFlight about s) (id k new : ℕ) (c 
       others : (j : ℕ) (u : FlightView) (role : Role) → j ≢ id → id ≡ r.owner → o'.made ≡ r.o.made → o'.gathered ≡ r.o.gathered → SeatOk r.owner r.o r.seat_of r.hand j u role → SeatOk r.owner o' r.seat_of r.hand j u role
       others j u Owns ne mine made gat q = absurd (ne (q.0 ∙ sym mine))
       others j u Takes ne mine made gat q = (subst (λ (n : ℕ). u.worker < n) (sym made) q.0, q.1, q.2, ap (λ l. look l u.worker) gat ∙ q.3)
-      others j u Spent ne mine made gat q = tt
+      others j u Spent ne mine made gat q = q
 
   -- a hand steps at the slot k
   pub hand_moves : (v h : FlightView) → get_elem? s.views id ≡ some v → v.role ≡ Takes → k < length s.homes → length homes' ≡ length s.homes
@@ -106,13 +113,18 @@ module _ (about : BookData) (s : St) (r : InFlight about s) (id k new : ℕ) (c 
         hand = put r.hand v.worker h;
         cells = put r.cells k c;
         o_about = r.o_about;
-        hand_about = λ w. at_put r.hand v.worker h (λ i x. (x.about ≡ about) × (x.worker ≡ i)) w (about' ∙ ap (λ u. u.about) mine.2 ∙ (r.hand_about v.worker).0, worker') (λ _. r.hand_about w);
+        hand_about = λ w. at_put r.hand v.worker h (λ i x. (x.about ≡ about) × (x.worker ≡ i) × (x.role ≡ Takes)) w (about' ∙ ap (λ u. u.about) mine.2 ∙ (r.hand_about v.worker).0, worker', role') (λ _. r.hand_about w);
         wide = length-set s.words k new ∙ r.wide ∙ sym long;
         each_seat = λ j u e. ⊎_elim
             (λ (x : (j ≡ id) × (h ≡ u)). subst (λ (y : ℕ × FlightView). SeatOk r.owner r.o r.seat_of hand' y.0 y.1 y.1.role) (λ i. (sym x.0 i, x.1 i))
             (subst (SeatOk r.owner r.o r.seat_of hand' id h) (sym role') (subst (λ (n : ℕ). n < r.o.made) (sym worker') mine.0, mine.1 ∙ ap r.seat_of (sym worker'), sym here ∙ ap hand' (sym worker'), ap (look r.o.gathered) worker' ∙ mine.3)))
             (λ (x : (j ≢ id) × (get_elem? s.views j ≡ some u)). others j u u.role x.0 mine.1 (r.each_seat j u x.1))
             (at_set s.views id j h u e);
+        has_owner = (set_else s.views id r.owner h (apart_by (λ z. z.role) s.views r.owner id r.o v r.has_owner.0 at (λ e. takes_owns (sym takes ∙ sym e ∙ r.has_owner.1))) ∙ r.has_owner.0, r.has_owner.1);
+        has_hand = λ w. at_put r.hand v.worker h (λ i x. i < r.o.made → look r.o.gathered i ≡ None → get_elem? (set s.views id h) (r.seat_of i) ≡ some x) w
+            (λ _ _. subst (λ (j : ℕ). get_elem? (set s.views id h) j ≡ some h) mine.1 (set_got s.views id v h at))
+            (λ ne lt none. let g = r.has_hand w lt none in
+                set_else s.views id (r.seat_of w) h (apart_by (λ z. z.worker) s.views (r.seat_of w) id (r.hand w) v g at (λ e. ne (sym (r.hand_about w).1 ∙ e))) ∙ g);
         each_slot = λ j lt. at_put r.cells k c (λ i x. j ≡ i → SlotOk about i r.o hand' (get_or (set s.words k new) i 0) (get_elem? homes' i) x) j
             (λ _. subst (λ (n : ℕ). SlotOk about k r.o hand' n (get_elem? homes' k) c) (sym (get_or-set_same s.words k new 0 (let w = r.wide in omega arith))) (ok is))
             (λ ne _. let was = r.each_slot j (let l = long in omega arith) in
@@ -130,4 +142,4 @@ module _ (about : BookData) (s : St) (r : InFlight about s) (id k new : ℕ) (c 
       others : (j : ℕ) (u : FlightView) (role : Role) → j ≢ id → id ≡ r.seat_of v.worker → SeatOk r.owner r.o r.seat_of r.hand j u role → SeatOk r.owner r.o r.seat_of (put r.hand v.worker h) j u role
       others j u Owns ne mine q = q
       others j u Takes ne mine q = (q.0, q.1, q.2 ∙ sym (put_else r.hand v.worker u.worker h (λ e. ne (q.1 ∙ ap r.seat_of e ∙ sym mine))), q.3)
-      others j u Spent ne mine q = tt
+      others j u Spent ne mine q = q

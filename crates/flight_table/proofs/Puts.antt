@@ -1,5 +1,5 @@
 -- A function that is changed at one number, and lists of keys with values.
-use Rattle.std.proofs.Common.{◌≡◌, ◌≢◌, ℕ, zero, suc, ◌+◌, ◌⊎◌, inl, inr, ⊎_elim, if◌then◌else◌, eq-eqb, ne_eqb, List, [], ◌∷◌, ◌++◌, length, refl, sym, ap, ◌∙◌, subst, arith, Option, Some, None}
+use Rattle.std.proofs.Common.{◌≡◌, ◌≢◌, ℕ, zero, suc, ◌+◌, ◌⊎◌, inl, inr, ⊎_elim, if◌then◌else◌, eq-eqb, ne_eqb, List, [], ◌∷◌, ◌++◌, length, set, refl, sym, ap, ◌∙◌, subst, arith, Option, Some, None}
 use native.Mathlib.Decide.{ℕ_discrete}
 use mathlib.Core.Path.{Path}
 use mathlib.Core.Option.{some, some-injective, some-ne-none}
@@ -40,6 +40,21 @@ module _ {A : Type 0} where
   at_snoc_here [] a b (suc j) e = absurd (some-ne-none b (sym e))
   at_snoc_here (x ∷ xs) a b zero e = inl e
   at_snoc_here (x ∷ xs) a b (suc j) e = ⊎_elim inl (λ t. inr (t.0, ap suc t.1)) (at_snoc_here xs a b j e)
+
+-- a seat whose view is changed has the new one, and so has a new seat at the end
+module _ {A : Type 0} where
+  pub set_got : (l : List A) (i : ℕ) (a b : A) → get_elem? l i ≡ some a → get_elem? (set l i b) i ≡ some b
+  set_got [] i a b e = absurd (some-ne-none a (sym e))
+  set_got (x ∷ xs) zero a b e = refl
+  set_got (x ∷ xs) (suc i) a b e = set_got xs i a b e
+
+  pub at_end : (l : List A) (a : A) → get_elem? (l ++ a ∷ []) (length l) ≡ some a
+  at_end [] a = refl
+  at_end (x ∷ xs) a = at_end xs a
+
+  -- two seats whose views differ
+  pub apart_by : {B : Type 0} (f : A → B) (l : List A) (i j : ℕ) (a b : A) → get_elem? l i ≡ some a → get_elem? l j ≡ some b → (f a ≡ f b → ⊥) → i ≢ j
+  apart_by f l i j a b p q differ e = differ (ap f (some-injective a b (sym p ∙ ap (get_elem? l) e ∙ q)))
 
 pub times_here : (w : ℕ) (l : List ℕ) → times w (w ∷ l) ≡ times w l + 1
 times_here w l = let e = ap (λ b. (if b then 1 else 0) + times w l) (eq-eqb w w refl) in omega (arith, e)

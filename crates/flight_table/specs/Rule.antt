@@ -8,7 +8,7 @@ use Rattle.crypto_op.specs.Op.{IsFresh, IsDone}
 use Rattle.crypto_op.specs.declared.op.Op.{Op}
 use Rattle.flight_table.specs.Note.{BookData, NoteData, drawn_of}
 use Rattle.flight_table.specs.Word.{word, packed}
-use Rattle.flight_table.specs.View.{look, sent, times, new_hand}
+use Rattle.flight_table.specs.View.{look, sent, spent, times, new_hand}
 use Rattle.flight_table.specs.declared.word.Phase.TheVariants.{Held, Ready, Taken, Done, Back}
 use Rattle.flight_table.specs.declared.word.Word.{Word}
 use Rattle.flight_table.specs.declared.rule.Role.{Role}
@@ -123,11 +123,11 @@ dones w cells (suc n) = is_done w (cells n) + dones w cells n
 
 -- Seats
 
--- the one owner's view is o; a hand is the one of a worker that was made and not joined, and its view is that worker's
+-- the one owner's view is o; a hand is the one of a worker that was made and not joined, and its view is that worker's; the view of a hand that was joined has nothing
 abbrev pub SeatOk : ℕ → FlightView → (ℕ → ℕ) → (ℕ → FlightView) → ℕ → FlightView → Role → Type 0
 SeatOk owner o seat_of hand j v Owns = (j ≡ owner) × (v ≡ o)
 SeatOk owner o seat_of hand j v Takes = (v.worker < o.made) × (j ≡ seat_of v.worker) × (v ≡ hand v.worker) × (look o.gathered v.worker ≡ None)
-SeatOk owner o seat_of hand j v Spent = Unit {0}
+SeatOk owner o seat_of hand j v Spent = v ≡ spent
 
 pub record InFlight (about : BookData) (s : State Slot FlightView) : Type 0 where
   pub owner : ℕ
@@ -136,9 +136,12 @@ pub record InFlight (about : BookData) (s : State Slot FlightView) : Type 0 wher
   pub hand : ℕ → FlightView
   pub cells : ℕ → Cell
   pub o_about : o.about ≡ about
-  pub hand_about : (w : ℕ) → ((hand w).about ≡ about) × ((hand w).worker ≡ w)
+  pub hand_about : (w : ℕ) → ((hand w).about ≡ about) × ((hand w).worker ≡ w) × ((hand w).role ≡ Takes)
   pub wide : length s.words ≡ length s.homes
   pub each_seat : (j : ℕ) (v : FlightView) → get_elem? s.views j ≡ some v → SeatOk owner o seat_of hand j v v.role
+  -- there is an owner, and each worker that was made and not joined has its hand
+  pub has_owner : (get_elem? s.views owner ≡ some o) × (o.role ≡ Owns)
+  pub has_hand : (w : ℕ) → w < o.made → look o.gathered w ≡ None → get_elem? s.views (seat_of w) ≡ some (hand w)
   pub each_slot : (k : ℕ) → k < length s.homes → SlotOk about k o hand (slice_index_or s.words k 0) (get_elem? s.homes k) (cells k)
   -- what was collected of a worker, and what waits to be, is what it finished
   pub counted : (w : ℕ) → times w o.collected + dones w cells (length s.homes) ≡ (hand w).finished

@@ -57,11 +57,11 @@ owner_splits about id v role s r at =
       has_owner = (at_longer (set s.views id o') (h ∷ []) r.owner o' (subst (λ (j : ℕ). get_elem? (set s.views id o') j ≡ some o') mine.0 (set_got s.views id v o' at)), role);
       has_hand = λ w. at_put r.seat_of v.made (length s.views) (λ i j. i < v.made + 1 → look v.gathered i ≡ None → get_elem? (set s.views id o' ++ h ∷ []) j ≡ some (r.hand i)) w
           (λ _ _. let g : v.made ≡ r.o.made = ap (λ z. z.made) mine.1 in
-              let f : r.hand v.made ≡ h = (r.unmade v.made (omega (arith, g))).0 ∙ ap (λ b. new_hand b v.made) (sym ours) in
-              subst (λ (z : ℕ × FlightView). get_elem? (set s.views id o' ++ h ∷ []) z.0 ≡ some z.1) (λ i. (length-set s.views id o' i, sym f i)) (at_end (set s.views id o') h))
+          let f : r.hand v.made ≡ h = (r.unmade v.made (omega (arith, g))).0 ∙ ap (λ b. new_hand b v.made) (sym ours) in
+          subst (λ (z : ℕ × FlightView). get_elem? (set s.views id o' ++ h ∷ []) z.0 ≡ some z.1) (λ i. (length-set s.views id o' i, sym f i)) (at_end (set s.views id o') h))
           (λ ne lt none. let g : v.made ≡ r.o.made = ap (λ z. z.made) mine.1 in
-              let t = r.has_hand w (omega (arith, g, lt, ne)) (ap (λ z. look z.gathered w) is ∙ none) in
-              at_longer (set s.views id o') (h ∷ []) (r.seat_of w) (r.hand w) (set_else s.views id (r.seat_of w) o' (apart_by (λ z. z.role) s.views (r.seat_of w) id (r.hand w) v t at (λ e. takes_owns (sym (r.hand_about w).2 ∙ e ∙ role))) ∙ t));
+          let t = r.has_hand w (omega (arith, g, lt, ne)) (ap (λ z. look z.gathered w) is ∙ none) in
+          at_longer (set s.views id o') (h ∷ []) (r.seat_of w) (r.hand w) (set_else s.views id (r.seat_of w) o' (apart_by (λ z. z.role) s.views (r.seat_of w) id (r.hand w) v t at (λ e. takes_owns (sym (r.hand_about w).2 ∙ e ∙ role))) ∙ t));
       each_slot = λ k lt. slot_on about k r.o o' r.hand r.hand (get_or s.words k 0) (get_elem? s.homes k) (r.cells k) (ap (λ z. look z.given k) mine.1) (λ x. ap (λ z. z.out) mine.1 ∙ x) (λ x. (ap (λ z. z.out) is ∙ x, ap (λ z. z.mark) mine.1)) (λ _. refl) (λ _ x. x) (r.each_slot k lt);
       counted = λ w. ap (λ z. times w z.collected + dones w r.cells (length s.homes)) mine.1 ∙ r.counted w;
       unmade = λ w le. let u = r.unmade w (let g : v.made ≡ r.o.made = ap (λ z. z.made) mine.1 in omega (arith, g, le)) in (u.0, ap (λ z. look z.gathered w) mine.1 ∙ u.1);
@@ -140,9 +140,9 @@ owner_joins about id v other w role role' s r at apart there =
       has_hand = λ u lt none. dite (ℕ_discrete u w.worker)
           (λ same. absurd (is_none (look o'.gathered u) w.finished none (subst (λ (i : ℕ). look o'.gathered i ≡ Some w.finished) (sym same) (look_here w.worker (Some w.finished) v.gathered))))
           (λ ne. let g : v.made ≡ r.o.made = ap (λ z. z.made) mine.1 in
-              let t = r.has_hand u (omega (arith, g, lt)) (ap (λ z. look z.gathered u) is ∙ sym (look_else w.worker (Some w.finished) u v.gathered ne) ∙ none) in
-              set_else (set s.views id o') other (r.seat_of u) spent (apart_by (λ z. z.worker) s.views (r.seat_of u) other (r.hand u) w t there' (λ e. ne (sym (r.hand_about u).1 ∙ e)))
-                  ∙ set_else s.views id (r.seat_of u) o' (apart_by (λ z. z.role) s.views (r.seat_of u) id (r.hand u) v t at (λ e. takes_owns (sym (r.hand_about u).2 ∙ e ∙ role))) ∙ t);
+          let t = r.has_hand u (omega (arith, g, lt)) (ap (λ z. look z.gathered u) is ∙ sym (look_else w.worker (Some w.finished) u v.gathered ne) ∙ none) in
+          set_else (set s.views id o') other (r.seat_of u) spent (apart_by (λ z. z.worker) s.views (r.seat_of u) other (r.hand u) w t there' (λ e. ne (sym (r.hand_about u).1 ∙ e)))
+          ∙ set_else s.views id (r.seat_of u) o' (apart_by (λ z. z.role) s.views (r.seat_of u) id (r.hand u) v t at (λ e. takes_owns (sym (r.hand_about u).2 ∙ e ∙ role))) ∙ t);
       each_slot = λ k lt. slot_on about k r.o o' r.hand r.hand (get_or s.words k 0) (get_elem? s.homes k) (r.cells k) (ap (λ z. look z.given k) mine.1) (λ x. ap (λ z. z.out) mine.1 ∙ x) (λ x. (ap (λ z. z.out) is ∙ x, ap (λ z. z.mark) mine.1)) (λ _. refl) (λ _ x. x) (r.each_slot k lt);
       counted = λ u. ap (λ z. times u z.collected + dones u r.cells (length s.homes)) mine.1 ∙ r.counted u;
       unmade = λ u le. let g : v.made ≡ r.o.made = ap (λ z. z.made) mine.1 in let lt = theirs.0 in let un = r.unmade u (omega (arith, g, le)) in

@@ -124,7 +124,7 @@ module _ (about : BookData) (s : St) (r : InFlight about s) (id k new : ℕ) (c 
         has_hand = λ w. at_put r.hand v.worker h (λ i x. i < r.o.made → look r.o.gathered i ≡ None → get_elem? (set s.views id h) (r.seat_of i) ≡ some x) w
             (λ _ _. subst (λ (j : ℕ). get_elem? (set s.views id h) j ≡ some h) mine.1 (set_got s.views id v h at))
             (λ ne lt none. let g = r.has_hand w lt none in
-                set_else s.views id (r.seat_of w) h (apart_by (λ z. z.worker) s.views (r.seat_of w) id (r.hand w) v g at (λ e. ne (sym (r.hand_about w).1 ∙ e))) ∙ g);
+            set_else s.views id (r.seat_of w) h (apart_by (λ z. z.worker) s.views (r.seat_of w) id (r.hand w) v g at (λ e. ne (sym (r.hand_about w).1 ∙ e))) ∙ g);
         each_slot = λ j lt. at_put r.cells k c (λ i x. j ≡ i → SlotOk about i r.o hand' (get_or (set s.words k new) i 0) (get_elem? homes' i) x) j
             (λ _. subst (λ (n : ℕ). SlotOk about k r.o hand' n (get_elem? homes' k) c) (sym (get_or-set_same s.words k new 0 (let w = r.wide in omega arith))) (ok is))
             (λ ne _. let was = r.each_slot j (let l = long in omega arith) in

@@ -6,6 +6,25 @@
 //! operations, and the [`Note`] in an operation shows what was drawn under its number. A contract sees of an
 //! [`Owner`] and of each [`Hand`] its *view*, what it knows: the words that it found (`looks`), what it has
 //! given out or taken slot by slot, and how many it finished or collected.
+//!
+//! ```text
+//!                  publish                 take                 finish
+//!   HELD (owner) -----------> READY(p, w) -------> TAKEN(p, w) ---------> DONE(p, w)
+//!    ^  ^  ^                     |                     |                     |
+//!    |  |  +--- recall ----------+                     | give_back           |
+//!    |  +------ recall ------- BACK(p, w) <------------+                     |
+//!    +--------- collect ----------------------------------------------------+
+//! ```
+//!
+//! A worker that gives back whatever it takes, as the tests have it:
+//!
+//! ```text
+//! fn returned(hand: &mut Hand, k: usize) -> Result<(), Word> {
+//!     let op = hand.take(k)?;
+//!     hand.give_back(k, op);
+//!     Ok(())
+//! }
+//! ```
 #![tactic(auto)]
 
 mod book;

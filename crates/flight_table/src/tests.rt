@@ -134,7 +134,7 @@ fn to_worker_1(phase: Phase) -> Word {
 }
 
 #[test]
-fn an_operation_goes_from_phase_to_phase(rt: HostRuntime) -> Result<(), Fail> {
+fn what_a_worker_gives_back_is_recalled(rt: HostRuntime) -> Result<(), Fail> {
     let alloc = rt.alloc();
     let mut book = Book::open(alloc, &SessionTable::new(alloc)?)?;
     let (mut owner, mut hands) = Flight::open(alloc, 2, 2, &book)?;
@@ -145,15 +145,25 @@ fn an_operation_goes_from_phase_to_phase(rt: HostRuntime) -> Result<(), Fail> {
     let back = to_worker_1(Phase::Back);
     assert!(rt; owner.look(0).phase == Phase::Held);
     owner.publish(0, noted(&mut book, operation(alloc)?), 1);
-    owner.publish(1, noted(&mut book, operation(alloc)?), 0);
     assert!(rt; owner.look(0) == ready);
     assert!(rt; finished(&mut first, 0) == Err(ready));
     assert!(rt; seen_while_taken(&mut second, &mut owner, 0) == Ok((taken, taken)));
     assert!(rt; second.look(0) == back && collected(&mut owner, &mut book, 0) == Err(back));
     assert!(rt; recalled(&mut owner, &mut book, 0) == Ok(0));
-    assert!(rt; finished(&mut first, 1) == Ok(()));
-    assert!(rt; recalled(&mut owner, &mut book, 1).is_err_and(|w| w.phase == Phase::Done));
-    assert!(rt; collected(&mut owner, &mut book, 1) == Ok(1));
+    Ok(())
+}
+
+#[test]
+fn what_a_worker_finishes_is_collected(rt: HostRuntime) -> Result<(), Fail> {
+    let alloc = rt.alloc();
+    let mut book = Book::open(alloc, &SessionTable::new(alloc)?)?;
+    let (mut owner, mut hands) = Flight::open(alloc, 2, 2, &book)?;
+    let mut second = hands.pop().ok_or("a hand")?;
+    let done = to_worker_1(Phase::Done);
+    owner.publish(1, noted(&mut book, operation(alloc)?), 1);
+    assert!(rt; finished(&mut second, 1) == Ok(()));
+    assert!(rt; second.look(1) == done && recalled(&mut owner, &mut book, 1) == Err(done));
+    assert!(rt; collected(&mut owner, &mut book, 1) == Ok(0));
     Ok(())
 }
 

@@ -11,8 +11,6 @@ use Rattle.session_file.specs.declared.plan.Plan.{Plan}
 use Rattle.packet_plan.specs.declared.written.Written.{Written}
 use Rattle.packet_plan.specs.Answered.{Answered, answered, answered_from}
 use Rattle.packet_plan.specs.Work.{written_view}
-use Rattle.dev_core.specs.declared.driver.LogEntry.{LogEntry}
-use Rattle.packet_flow.specs.Entries.{entries_for, entries_from}
 use Rattle.packet_flow.specs.declared.slots.Slot.{Slot}
 use Rattle.packet_flow.specs.declared.slots.Slot.TheVariants.{Ready}
 use Rattle.packet_flow.specs.Slots.{IsBetween, SlotsSay, open_numbers}
@@ -54,18 +52,6 @@ answered_from-append plan n [] more = ap (λ (k : ℕ). answered_from plan k mor
 answered_from-append plan n (r ∷ rs) more =
     let at : (n + 1) + length rs ≡ n + length (r ∷ rs) = omega arith in
     ap (λ (l : List Answered). answered plan n r ∷ l) (answered_from-append plan (n + 1) rs more ∙ ap (λ (k : ℕ). answered_from plan (n + 1) rs ++ answered_from plan k more) at)
-
-pub entries_from-append : (plan : Plan) (n : ℕ) (rs more : List Rec) → entries_from plan n (rs ++ more) ≡ entries_from plan n rs ++ entries_from plan (n + length rs) more
-unfolding entries_from
-entries_from-append plan n [] more = ap (λ (k : ℕ). entries_from plan k more) (sym (add-zero n))
-entries_from-append plan n (r ∷ rs) more =
-    let at : (n + 1) + length rs ≡ n + length (r ∷ rs) = omega arith in
-    let behind = entries_from-append plan (n + 1) rs more ∙ ap (λ (k : ℕ). entries_from plan (n + 1) rs ++ entries_from plan k more) at in
-    ap (λ (l : List LogEntry). entries_for plan n r ++ l) behind ∙ sym (append_assoc (entries_for plan n r) (entries_from plan (n + 1) rs) (entries_from plan (n + length (r ∷ rs)) more))
-
-pub entries_from-one : (plan : Plan) (n : ℕ) (r : Rec) → entries_from plan n (r ∷ []) ≡ entries_for plan n r
-unfolding entries_from
-entries_from-one plan n r = append-nil (entries_for plan n r)
 
 -- the slot at the front is ready
 pub record FrontReady (plan : Plan) (used : List Rec) (first : ℕ) (ss : List Slot) (w : Written) (entries : List (Entry Card)) : Type 0 where

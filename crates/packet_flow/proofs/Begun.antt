@@ -2,7 +2,7 @@
 use Rattle.std.proofs.Common.{◌≡◌, ◌<◌, ◌≤◌, ◌+◌, ◌*◌, ◌==◌, ◌^◌, ◌++◌, ◌∷◌, ℕ, zero, suc, Bool, List, [], length, map, take, drop, count_by, refl, ap, sym, subst, ◌∙◌, arith, inl, inr, append_assoc, length-append, length-drop}
 use Rattle.std.specs.Prelude.{Some, None, ◌⊎◌, Result, Err, IfErr}
 use Rattle.std.specs.List.{All, slice_get, flat_map}
-use Rattle.std.proofs.lemmas.List.{append-nil, map-append, drop-append-le}
+use Rattle.std.proofs.lemmas.List.{append-nil, map-append, drop-append-le, length-map}
 use Rattle.std.proofs.lemmas.List.Elements.{All-append, All-cons, All-nil, All-tail, All-weaker}
 use Rattle.crypto_op.specs.declared.spec.Card.{Card}
 use Rattle.crypto_op.specs.declared.op.Op.{Op}
@@ -25,15 +25,15 @@ use Rattle.packet_flow.specs.declared.flow.FlowEnd.TheVariants.{WriteFault}
 use Rattle.packet_flow.specs.declared.slots.Slot.{Slot}
 use Rattle.packet_flow.specs.declared.slots.Slot.TheVariants.{Open, Ready}
 use Rattle.packet_flow.specs.Counts.{counts_of}
-use Rattle.packet_flow.specs.Entries.{entries_for, entries_from, entry_for}
+use Rattle.packet_flow.specs.Entries.{entries_from, entries_of, entry_for}
 use Rattle.packet_flow.specs.Filling.{AddsSlot, IsBegunAs, left_to_begin, open_end}
 use Rattle.packet_flow.specs.Flowed.{CutAt, answer_bytes}
 use Rattle.packet_flow.specs.Passage.{Before, Outside, EndsAs, IsEarly, IsUnderway}
 use Rattle.packet_flow.specs.Reads.{GoesOn, HasRead, IsWholeStop}
 use Rattle.packet_flow.specs.Slots.{IsBetween, IsFor, SlotSays, SlotsSay, WaitsAtFront, open_numbers}
-use Rattle.packet_flow.proofs.Answers.{entries_from-append, entries_from-one}
+use Rattle.packet_flow.proofs.Numbers.{entries_behind, entries_behind-one, entries_from-append, entries_of-none, entries_of-one, length-entries_from}
 use Rattle.packet_flow.proofs.Bags.{count-append}
-use Rattle.packet_flow.specs.Offers.{Flows}
+use Rattle.dev_core.specs.Offers.{Flows}
 use Rattle.packet_flow.proofs.Ends.{begun_first, ends_cut, ends_early, first_answers, flows_any}
 use Rattle.packet_flow.proofs.InSlots.{SlotsSay-push, length-SlotsSay, open_numbers-open, open_numbers-ready}
 
@@ -59,19 +59,19 @@ for_new plan used n r op at number is = (
   subst (λ (m : ℕ). asked plan m r.packet ≡ Works op.cargo (input_of (made op))) (sym number) is,
 )
 
-between_step : (plan : Plan) (used : List Rec) (first n : ℕ) (r : Rec) (ss : List Slot) (es : List (Entry Card)) (s : Slot) (ops : List (Op Card)) → n ≡ first + length ss → n ≡ length used
-    → SlotsSay plan first (ss ++ s ∷ []) (drop first (used ++ r ∷ [])) → IsBegunAs plan n r s ops → IsBetween plan used first ss es
+between_step : (plan : Plan) (used : List Rec) (first n i : ℕ) (r : Rec) (ss : List Slot) (es : List (Entry Card)) (s : Slot) (ops : List (Op Card)) → n ≡ first + length ss → n ≡ length used
+    → SlotsSay plan first (ss ++ s ∷ []) (drop first (used ++ r ∷ [])) → IsBegunAs plan n i r s ops → IsBetween plan used first ss es
     → IsBetween plan (used ++ r ∷ []) first (ss ++ s ∷ []) (es ++ map entry_of ops)
-between_step plan used first n r ss es (Ready w) [] at count say is b =
+between_step plan used first n i r ss es (Ready w) [] at count say is b =
     subst (IsBetween plan (used ++ r ∷ []) first (ss ++ Ready w ∷ [])) (sym (append-nil es)) (record {
       begun = omega (arith, b.begun, length-append used (r ∷ []));
       slots = say;
       made = All-weaker (IsFor plan used) (IsFor plan (used ++ r ∷ [])) (for_longer plan used (r ∷ [])) es b.made;
       waits = λ m. b.waits m ∙ ap (count_by (λ (k : ℕ). k == m)) (sym (open_numbers-ready first ss w));
     })
-between_step plan used first n r ss es (Ready w) (op ∷ ops) at count say is b = absurd is
-between_step plan used first n r ss es (Open kept) [] at count say is b = absurd is
-between_step plan used first n r ss es (Open kept) (op ∷ []) at count say is b = record {
+between_step plan used first n i r ss es (Ready w) (op ∷ ops) at count say is b = absurd is
+between_step plan used first n i r ss es (Open kept) [] at count say is b = absurd is
+between_step plan used first n i r ss es (Open kept) (op ∷ []) at count say is b = record {
   begun = omega (arith, b.begun, length-append used (r ∷ []));
   slots = say;
   made = All-append (IsFor plan (used ++ r ∷ [])) es (entry_of op ∷ [])
@@ -84,33 +84,33 @@ between_step plan used first n r ss es (Open kept) (op ∷ []) at count say is b
       ∙ sym (count-append (λ (x : ℕ). x == m) (open_numbers first ss) ((first + length ss) ∷ []))
       ∙ ap (count_by (λ (x : ℕ). x == m)) (sym (open_numbers-open first ss kept));
 }
-between_step plan used first n r ss es (Open kept) (op ∷ op' ∷ ops) at count say is b = absurd is
+between_step plan used first n i r ss es (Open kept) (op ∷ op' ∷ ops) at count say is b = absurd is
 
-says_new : (plan : Plan) (n : ℕ) (r : Rec) (s : Slot) (ops : List (Op Card)) → IsBegunAs plan n r s ops → SlotSays plan n s r
-says_new plan n r (Ready w) [] is = is.0
-says_new plan n r (Ready w) (op ∷ ops) is = absurd is
-says_new plan n r (Open kept) [] is = absurd is
-says_new plan n r (Open kept) (op ∷ []) is = is.kept
-says_new plan n r (Open kept) (op ∷ op' ∷ ops) is = absurd is
+says_new : (plan : Plan) (n i : ℕ) (r : Rec) (s : Slot) (ops : List (Op Card)) → IsBegunAs plan n i r s ops → SlotSays plan n s r
+says_new plan n i r (Ready w) [] is = is.0
+says_new plan n i r (Ready w) (op ∷ ops) is = absurd is
+says_new plan n i r (Open kept) [] is = absurd is
+says_new plan n i r (Open kept) (op ∷ []) is = is.kept
+says_new plan n i r (Open kept) (op ∷ op' ∷ ops) is = absurd is
 
 -- the operation as a log tells it
-fresh_entry : (n : ℕ) (op : Op Card) → IsFresh op → op.spec.pos ≡ n → log_entry op ≡ entry_for n (input_of (made op))
-fresh_entry n op fresh pos = ap (λ (q : Request). entry_for op.spec.pos (input_of q)) fresh.request ∙ ap (λ (m : ℕ). entry_for m (input_of (made op))) pos
+fresh_entry : (i : ℕ) (op : Op Card) → IsFresh op → op.spec.pos ≡ i → log_entry op ≡ entry_for i (input_of (made op))
+fresh_entry i op fresh pos = ap (λ (q : Request). entry_for op.spec.pos (input_of q)) fresh.request ∙ ap (λ (k : ℕ). entry_for k (input_of (made op))) pos
 
-entries_new : (plan : Plan) (n : ℕ) (r : Rec) (s : Slot) (ops : List (Op Card)) → IsBegunAs plan n r s ops → map log_entry ops ≡ entries_for plan n r
-entries_new plan n r (Ready w) [] is = sym (ap (map (entry_for n)) is.1)
-entries_new plan n r (Ready w) (op ∷ ops) is = absurd is
-entries_new plan n r (Open kept) [] is = absurd is
-entries_new plan n r (Open kept) (op ∷ []) is =
-    ap (λ (e : LogEntry). e ∷ []) (fresh_entry n op is.fresh is.pos) ∙ sym (ap (λ (a : Asked). map (entry_for n) (inputs_of a)) is.asked)
-entries_new plan n r (Open kept) (op ∷ op' ∷ ops) is = absurd is
+entries_new : (plan : Plan) (n i : ℕ) (r : Rec) (s : Slot) (ops : List (Op Card)) → IsBegunAs plan n i r s ops → map log_entry ops ≡ entries_of i (inputs_of (asked plan n r.packet))
+entries_new plan n i r (Ready w) [] is = sym (ap (entries_of i) is.1 ∙ entries_of-none i)
+entries_new plan n i r (Ready w) (op ∷ ops) is = absurd is
+entries_new plan n i r (Open kept) [] is = absurd is
+entries_new plan n i r (Open kept) (op ∷ []) is =
+    ap (λ (e : LogEntry). e ∷ []) (fresh_entry i op is.fresh is.pos) ∙ sym (ap (λ (a : Asked). entries_of i (inputs_of a)) is.asked ∙ entries_of-one i (input_of (made op)))
+entries_new plan n i r (Open kept) (op ∷ op' ∷ ops) is = absurd is
 
-fresh_new : (plan : Plan) (n : ℕ) (r : Rec) (s : Slot) (ops : List (Op Card)) → IsBegunAs plan n r s ops → All IsFresh ops
-fresh_new plan n r (Ready w) [] is = All-nil IsFresh
-fresh_new plan n r (Ready w) (op ∷ ops) is = absurd is
-fresh_new plan n r (Open kept) [] is = absurd is
-fresh_new plan n r (Open kept) (op ∷ []) is = All-cons IsFresh op [] is.fresh (All-nil IsFresh)
-fresh_new plan n r (Open kept) (op ∷ op' ∷ ops) is = absurd is
+fresh_new : (plan : Plan) (n i : ℕ) (r : Rec) (s : Slot) (ops : List (Op Card)) → IsBegunAs plan n i r s ops → All IsFresh ops
+fresh_new plan n i r (Ready w) [] is = All-nil IsFresh
+fresh_new plan n i r (Ready w) (op ∷ ops) is = absurd is
+fresh_new plan n i r (Open kept) [] is = absurd is
+fresh_new plan n i r (Open kept) (op ∷ []) is = All-cons IsFresh op [] is.fresh (All-nil IsFresh)
+fresh_new plan n i r (Open kept) (op ∷ op' ∷ ops) is = absurd is
 
 -- ---- the first record that waits is begun, and what is ready is written
 
@@ -121,7 +121,10 @@ module _ (plan : Plan) (b : Before) (s_tells k_tells : Type 0) (p : Passage) (o 
   pub few_slots : p.first + length p.slots.items < 2 ^ 32
   few_slots = omega (arith, number_of, u.count, u.range)
 
-  module _ (rec : Record) (rest : List Record) (waits : p.waiting.items ≡ rec ∷ rest) (n : ℕ) (at : n ≡ p.first + length p.slots.items) (ss : List Slot) (burst : Burst (Op Card)) (a : AddsSlot plan n (view rec) p.slots.items ss p.burst burst) where
+  pub few_made : p.made < 2 ^ 32
+  few_made = omega (arith, u.made, length-entries_from plan 0 u.used, u.count, u.range)
+
+  module _ (rec : Record) (rest : List Record) (waits : p.waiting.items ≡ rec ∷ rest) (n : ℕ) (at : n ≡ p.first + length p.slots.items) (ss : List Slot) (burst : Burst (Op Card)) (made_now : ℕ) (a : AddsSlot plan n (view rec) p.made made_now p.slots.items ss p.burst burst) where
     abbrev pub used : List Rec
     used = u.used ++ view rec ∷ []
 
@@ -148,32 +151,37 @@ module _ (plan : Plan) (b : Before) (s_tells k_tells : Type 0) (p : Passage) (o 
         let say : SlotsSay plan p.first (p.slots.items ++ a.slot ∷ []) (drop p.first used) =
         subst (SlotsSay plan p.first (p.slots.items ++ a.slot ∷ [])) (sym (drop-append-le p.first u.used (view rec ∷ []) u.between.begun))
         (SlotsSay-push plan p.first p.slots.items (drop p.first u.used) a.slot (view rec) u.between.slots
-        (subst (λ (m : ℕ). SlotSays plan m a.slot (view rec)) at (says_new plan n (view rec) a.slot a.ops a.begun))) in
+        (subst (λ (m : ℕ). SlotSays plan m a.slot (view rec)) at (says_new plan n p.made (view rec) a.slot a.ops a.begun))) in
         let es : (o.held ++ map entry_of p.burst.ops) ++ map entry_of a.ops ≡ entries =
         append_assoc o.held (map entry_of p.burst.ops) (map entry_of a.ops)
         ∙ ap (λ (l : List (Entry Card)). o.held ++ l) (sym (map-append entry_of p.burst.ops a.ops) ∙ ap (map entry_of) (sym ops_are)) in
         subst (λ (l : List Slot). IsBetween plan used p.first l entries) (sym a.slots)
         (subst (IsBetween plan used p.first (p.slots.items ++ a.slot ∷ [])) es
-        (between_step plan u.used p.first n (view rec) p.slots.items (o.held ++ map entry_of p.burst.ops) a.slot a.ops at (at ∙ number_of) say a.begun u.between))
+        (between_step plan u.used p.first n p.made (view rec) p.slots.items (o.held ++ map entry_of p.burst.ops) a.slot a.ops at (at ∙ number_of) say a.begun u.between))
+
+    -- its operation has the next number
+    entries_are : entries_from plan 0 used ≡ entries_from plan 0 u.used ++ map log_entry a.ops
+    entries_are =
+        entries_from-append plan u.used (view rec ∷ [])
+        ∙ ap (λ (l : List LogEntry). entries_from plan 0 u.used ++ l) (entries_behind-one plan u.used (view rec) n p.made (at ∙ number_of) u.made ∙ sym (entries_new plan n p.made (view rec) a.slot a.ops a.begun))
 
     queued : u.taken ++ map log_entry burst.ops ≡ entries_from plan 0 used
     queued =
-        let count : n ≡ 0 + length u.used = omega (arith, at, number_of) in
-        let new : map log_entry a.ops ≡ entries_from plan (0 + length u.used) (view rec ∷ []) =
-        entries_new plan n (view rec) a.slot a.ops a.begun ∙ sym (entries_from-one plan n (view rec)) ∙ ap (λ (m : ℕ). entries_from plan m (view rec ∷ [])) count in
         ap (λ (l : List LogEntry). u.taken ++ l) (ap (map log_entry) ops_are ∙ map-append log_entry p.burst.ops a.ops)
         ∙ sym (append_assoc u.taken (map log_entry p.burst.ops) (map log_entry a.ops))
         ∙ ap (λ (l : List LogEntry). l ++ map log_entry a.ops) u.queued
-        ∙ ap (λ (l : List LogEntry). entries_from plan 0 u.used ++ l) new
-        ∙ sym (entries_from-append plan 0 u.used (view rec ∷ []))
+        ∙ sym entries_are
+
+    made_is : made_now ≡ length (entries_from plan 0 used)
+    made_is =
+        omega (arith, a.count, u.made, ap length entries_are, length-append (entries_from plan 0 u.used) (map log_entry a.ops), length-map a.ops (log_entry {C = Card}))
 
     -- behind this record more may come
     pub offers : (more : List LogEntry) → Flows b.size (entries_from plan 0 used ++ more) o.past
     offers more =
-        let new = entries_from plan (0 + length u.used) (view rec ∷ []) in
         subst (λ (l : List LogEntry). Flows b.size l o.past)
-        (sym (append_assoc (entries_from plan 0 u.used) new more) ∙ ap (λ (l : List LogEntry). l ++ more) (sym (entries_from-append plan 0 u.used (view rec ∷ []))))
-        (u.offers (new ++ more) (λ stop is none. absurd (omega (arith, ap length none, ap length waits))))
+        (sym (append_assoc (entries_from plan 0 u.used) (map log_entry a.ops) more) ∙ ap (λ (l : List LogEntry). l ++ more) (sym entries_are))
+        (u.offers (map log_entry a.ops ++ more) (λ stop is none. absurd (omega (arith, ap length none, ap length waits))))
 
     so_far : used ++ map view rest ≡ u.used ++ map view p.waiting.items
     so_far = append_assoc u.used (view rec ∷ []) (map view rest) ∙ ap (λ (l : List Record). u.used ++ map view l) (sym waits)
@@ -204,14 +212,14 @@ module _ (plan : Plan) (b : Before) (s_tells k_tells : Type 0) (p : Passage) (o 
           (λ told. subst (λ (x : Bool). CutAt x (answered_from plan 0 used) first b.base wrote') (sym big_is) (cut told plan used entries between b.base (wrote_first told)))
 
       -- what was ready was written, and the passage is as q in what changed
-      pub begun_and_written : (q : Passage) → q.waiting.items ≡ rest → q.burst ≡ burst
+      pub begun_and_written : (q : Passage) → q.waiting.items ≡ rest → q.burst ≡ burst → q.made ≡ made_now
           → ((plan : Plan) (used : List Rec) (entries : List (Entry Card)) → IsBetween plan used p.first ss entries → IsBetween plan used q.first q.slots.items entries)
           → ((plan : Plan) (used : List Rec) (entries : List (Entry Card)) → IsBetween plan used p.first ss entries → p.counts ≡ counts_of (take p.first (answered_from plan 0 used))
           → (q.first ≤ length used) × (q.counts ≡ counts_of (take q.first (answered_from plan 0 used))))
           → (k_tells → (plan : Plan) (used : List Rec) (entries : List (Entry Card)) → IsBetween plan used p.first ss entries → (base : List ℕ)
           → wrote ≡ base ++ flat_map (answer_bytes big) (take p.first (answered_from plan 0 used)) → wrote' ≡ base ++ flat_map (answer_bytes big) (take q.first (answered_from plan 0 used)))
           → WaitsAtFront q.slots.items → IsUnderway plan b s_tells k_tells (record q { place = p.place; stop = p.stop; back = p.back }) (record o { left = left; written = wrote' })
-      begun_and_written q waiting_are burst_is moved counts_are written_is front = record {
+      begun_and_written q waiting_are burst_is count_is moved counts_are written_is front = record {
         used = used;
         taken = u.taken;
         reads = λ told. subst (λ (l : List Record). GoesOn b.big b.bytes (used ++ map view l) p.place left p.stop) (sym waiting_are)
@@ -220,10 +228,11 @@ module _ (plan : Plan) (b : Before) (s_tells k_tells : Type 0) (p : Passage) (o 
             ∙ ap (λ (x : Bool). b.base ++ flat_map (answer_bytes x) (take q.first (answered_from plan 0 used))) (sym big_is);
         between = subst (λ (x : Burst (Op Card)). IsBetween plan used q.first q.slots.items (o.held ++ map entry_of x.ops)) (sym burst_is) (moved plan used entries between);
         counts = (counts_are plan used entries between counted).1;
+        made = count_is ∙ made_is;
         queued = ap (λ (x : Burst (Op Card)). u.taken ++ map log_entry x.ops) burst_is ∙ queued;
         device = u.device;
         few = u.few;
-        fresh = subst (All IsFresh) (sym (ap (λ (x : Burst (Op Card)). x.ops) burst_is ∙ ops_are)) (All-append IsFresh p.burst.ops a.ops u.fresh (fresh_new plan n (view rec) a.slot a.ops a.begun));
+        fresh = subst (All IsFresh) (sym (ap (λ (x : Burst (Op Card)). x.ops) burst_is ∙ ops_are)) (All-append IsFresh p.burst.ops a.ops u.fresh (fresh_new plan n p.made (view rec) a.slot a.ops a.begun));
         front = front;
         stopped = λ stop is. ((u.stopped stop is).0, λ told ended. sym left_is ∙ (u.stopped stop is).1 told ended);
         small = subst (All IsSmall) (sym waiting_are) (All-tail IsSmall rec rest (subst (All IsSmall) waits u.small));
@@ -270,6 +279,7 @@ read_on plan b s_tells k_tells p q o big left left' wrote old big_is left_is wri
   writes = λ told. sym written_is ∙ u.writes told;
   between = u.between;
   counts = u.counts;
+  made = u.made;
   queued = u.queued;
   device = u.device;
   few = u.few;

@@ -2,7 +2,8 @@
 use Rattle.std.proofs.Common.{◌≡◌, ◌<◌, ℕ, List, ◌∷◌, refl}
 use Rattle.dev_core.specs.declared.driver.LogEntry.{LogEntry}
 use Rattle.dev_core.specs.Calls.{Call, Asks, Ran}
-use Rattle.packet_flow.specs.Offers.{Flows, IsDrained, OnlyAsked, rest_of_burst, taken_by}
+use Rattle.dev_core.specs.Offers.{Flows, IsDrained, rest_of_burst, taken_by}
+use Rattle.packet_flow.specs.Turns.{OnlyAsked}
 
 pub none_more : (past : List Call) → OnlyAsked past past
 none_more past = record { taken = refl; rest = refl; flows = λ size ops f. f }

@@ -26,10 +26,11 @@ use Rattle.packet_flow.specs.Entries.{entries_from}
 use Rattle.packet_flow.specs.Reads.{GoesOn, IsWholeStop, ReadsAs}
 use Rattle.packet_flow.specs.Flowed.{CutAt, Flowed, IsWrittenBy, answer_bytes}
 use Rattle.dev_core.specs.Calls.{Call}
-use Rattle.packet_flow.specs.Offers.{Flows, taken_by}
+use Rattle.dev_core.specs.Offers.{Flows, taken_by}
 use Rattle.packet_flow.specs.Passage.{Before, Outside, HasTaken, IsEarly, IsUnderway, EndsAs}
 use Rattle.packet_flow.proofs.InSlots.{length-SlotsSay}
-use Rattle.packet_flow.proofs.Answers.{answered_from-append, length-answered_from, entries_from-append}
+use Rattle.packet_flow.proofs.Answers.{answered_from-append, length-answered_from}
+use Rattle.packet_flow.proofs.Numbers.{entries_behind, entries_behind-none, entries_from-append}
 
 -- the records that were begun are the first of any reading
 pub begun_first : (big : Bool) (bytes : List ℕ) (used waiting : List Rec) (place : Place) (left : List ℕ) (stop : Option ReadStop) → GoesOn big bytes (used ++ waiting) place left stop
@@ -41,15 +42,11 @@ begun_first big bytes used waiting place left (Some (ReadStop.TooLarge value)) o
 begun_first big bytes used waiting place left (Some Fault) on rs rest all = let h = on rs rest all in (waiting ++ h.0, h.1 ∙ append_assoc used waiting h.0)
 begun_first big bytes used waiting place left (Some OutOfMemory) on rs rest all = let h = on rs rest all in (waiting ++ h.0, h.1 ∙ append_assoc used waiting h.0)
 
-none_asked : (plan : Plan) (n : ℕ) → entries_from plan n [] ≡ []
-unfolding entries_from
-none_asked plan n = refl
-
 -- the calls of a flow, whatever comes behind the records that were begun
 pub flows_any : (plan : Plan) (size : ℕ) (past : List Call) (used rs : List Rec) → ((more : List LogEntry) → Flows size (entries_from plan 0 used ++ more) past) → (more : List Rec) × (rs ≡ used ++ more)
     → Flows size (entries_from plan 0 rs) past
 flows_any plan size past used rs offers more =
-    subst (λ (l : List LogEntry). Flows size l past) (sym (entries_from-append plan 0 used more.0) ∙ ap (entries_from plan 0) (sym more.1)) (offers (entries_from plan (0 + length used) more.0))
+    subst (λ (l : List LogEntry). Flows size l past) (sym (entries_from-append plan used more.0) ∙ ap (entries_from plan 0) (sym more.1)) (offers (entries_behind plan used more.0))
 
 -- the records behind those that were begun: none, where the capture ended and none waits
 ended_here : (big : Bool) (bytes : List ℕ) (used : List Rec) (waiting : List Record) (place : Place) (left : List ℕ) (stop : Option ReadStop) → GoesOn big bytes (used ++ map view waiting) place left stop
@@ -68,8 +65,8 @@ pub flows_behind : (plan : Plan) (b : Before) (s_tells k_tells : Type 0) (p : Pa
     → s_tells → (rs : List Rec) (rest : Rest) → Records b.big first_place b.bytes rs rest → Flows b.size (entries_from plan 0 rs) now
 flows_behind plan b s_tells k_tells p o u now offers told rs rest all =
     let h = ended_here b.big b.bytes u.used p.waiting.items p.place o.left p.stop (u.reads told) (λ s is. (u.stopped s is).0) rs rest all in
-    subst (λ (l : List LogEntry). Flows b.size l now) (sym (entries_from-append plan 0 u.used h.0) ∙ ap (entries_from plan 0) (sym h.1))
-    (offers (entries_from plan (0 + length u.used) h.0) (λ s is none. ap (entries_from plan (0 + length u.used)) (h.2 s is none) ∙ none_asked plan (0 + length u.used)))
+    subst (λ (l : List LogEntry). Flows b.size l now) (sym (entries_from-append plan u.used h.0) ∙ ap (entries_from plan 0) (sym h.1))
+    (offers (entries_behind plan u.used h.0) (λ s is none. ap (entries_behind plan u.used) (h.2 s is none) ∙ entries_behind-none plan u.used))
 
 -- the calls of a flow on the way, against the whole capture
 pub flows_now : (plan : Plan) (b : Before) (s_tells k_tells : Type 0) (p : Passage) (o : Outside) → IsUnderway plan b s_tells k_tells p o → s_tells → (rs : List Rec) (rest : Rest) → Records b.big first_place b.bytes rs rest
@@ -85,9 +82,9 @@ first_answers plan used more n within =
 first_taken : (plan : Plan) (used more : List Rec) (taken queued : List LogEntry) → taken ++ queued ≡ entries_from plan 0 used
     → taken ≡ take (length taken) (entries_from plan 0 (used ++ more))
 first_taken plan used more taken queued all =
-    let behind = entries_from plan (0 + length used) more in
+    let behind = entries_behind plan used more in
     let split : entries_from plan 0 (used ++ more) ≡ taken ++ (queued ++ behind) =
-    entries_from-append plan 0 used more ∙ ap (λ (l : List LogEntry). l ++ behind) (sym all) ∙ append_assoc taken queued behind in
+    entries_from-append plan used more ∙ ap (λ (l : List LogEntry). l ++ behind) (sym all) ∙ append_assoc taken queued behind in
     sym (ap (take (length taken)) split ∙ take-append_seam taken (queued ++ behind))
 
 -- of any reading whose first records are those that were begun

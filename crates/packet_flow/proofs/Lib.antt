@@ -1,6 +1,7 @@
 mod InSlots
 mod Bags
 pub mod Answers
+pub mod Numbers
 mod Begun
 mod Ends
 mod Settling

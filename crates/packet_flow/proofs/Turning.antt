@@ -19,7 +19,6 @@ use Rattle.capture_io.specs.declared.header.Place.{Place}
 use Rattle.capture_io.specs.declared.header.ReadStop.{ReadStop}
 use Rattle.capture_io.specs.declared.header.Record.{Record}
 use Rattle.session_file.specs.declared.plan.Plan.{Plan}
-use Rattle.packet_plan.specs.Asked.{Asked, Passes, TooShort, Works, asked, inputs_of}
 use Rattle.packet_plan.specs.Answered.{Answered, answered_from}
 use Rattle.packet_flow.specs.declared.counts.Counts.{Counts}
 use Rattle.packet_flow.specs.declared.flow.FlowEnd.TheVariants as flow_end
@@ -27,30 +26,20 @@ use Rattle.packet_flow.specs.declared.passage.Passage.{Passage}
 use Rattle.packet_flow.specs.declared.slots.Slot.{Slot}
 use Rattle.packet_flow.specs.declared.slots.Slot.TheVariants.{Open, Ready}
 use Rattle.packet_flow.specs.Counts.{counts_of}
-use Rattle.packet_flow.specs.Entries.{entry_for, entries_for, entries_from}
+use Rattle.packet_flow.specs.Entries.{entries_from}
 use Rattle.packet_flow.specs.Flowed.{CutAt, answer_bytes}
 use Rattle.std.proofs.Math.Seq.{take-append_seam, drop-append_seam}
-use Rattle.dev_core.specs.Calls.{Call, Offers}
-use Rattle.packet_flow.specs.Offers.{OnlyAsked, Flows, IsAt, IsDrained, next_burst, rest_of_burst, taken_by}
+use Rattle.dev_core.specs.Calls.{Call}
+use Rattle.dev_core.specs.Offers.{Flows, IsDrained, next_burst, rest_of_burst, taken_by}
+use Rattle.packet_flow.specs.Turns.{IsAt, OnlyAsked, with_offer}
 use Rattle.packet_flow.specs.Passage.{Before, Outside, HasTaken, IsFilled, IsUnderway, EndsAs, IsNew}
 use Rattle.packet_flow.specs.Reads.{GoesOn, HasRead, IsWholeStop}
 use Rattle.packet_flow.specs.Slots.{IsBetween, SlotsSay, WaitsAtFront, open_numbers}
 use Rattle.packet_flow.proofs.InSlots.{count-cons, one, same_told}
+use Rattle.packet_flow.proofs.Numbers.{entries_from-none, length-entries_from}
 use Rattle.packet_flow.proofs.WholeReading.{begun, read_on}
 
--- ---- at most one operation for each record
-
-few_inputs : (n : ℕ) (a : Asked) → length (map (entry_for n) (inputs_of a)) ≤ 1
-few_inputs n Passes = omega arith
-few_inputs n TooShort = omega arith
-few_inputs n (Works card input) = omega arith
-
-pub length-entries_from : (plan : Plan) (n : ℕ) (rs : List Rec) → length (entries_from plan n rs) ≤ length rs
-unfolding entries_from
-length-entries_from plan n [] = omega arith
-length-entries_from plan n (r ∷ rs) =
-    let own : length (entries_for plan n r) ≤ 1 = few_inputs n (asked plan n r.packet) in
-    omega (arith, own, length-entries_from plan (n + 1) rs, length-append (entries_for plan n r) (entries_from plan (n + 1) rs))
+-- ---- how many there are
 
 module _ (plan : Plan) (b : Before) (s_tells k_tells : Type 0) (p : Passage) (o : Outside) (u : IsUnderway plan b s_tells k_tells p o) where
   pub few_taken : length u.taken + length p.burst.ops < 2 ^ 32
@@ -214,10 +203,6 @@ none_between plan first ss entries first_is ss_are entries_are =
     let at_first : IsBetween plan [] 0 [] [] = record { begun = omega arith; slots = tt; made = λ k d lt. absurd (omega (arith, lt)); waits = λ n. refl } in
     subst (λ (n : ℕ). IsBetween plan [] n ss entries) (sym first_is) (subst (λ (l : List Slot). IsBetween plan [] 0 l entries) (sym ss_are) (subst (IsBetween plan [] 0 []) (sym entries_are) at_first))
 
-none_asked : (plan : Plan) → entries_from plan 0 [] ≡ []
-unfolding entries_from
-none_asked plan = refl
-
 none_read : (big : Bool) (bytes left : List ℕ) (place : Place) (waiting : List Record) (stop : Option ReadStop) → place ≡ first_place → left ≡ bytes → waiting ≡ [] → stop ≡ None
     → GoesOn big bytes ([] ++ map view waiting) place left stop
 none_read big bytes left place waiting stop place_is left_is waiting_is stop_is =
@@ -241,7 +226,8 @@ new_underway plan b s_tells k_tells size p o some size_is no_call new device lef
       between = none_between plan p.first p.slots.items (o.held ++ map entry_of p.burst.ops) new.first new.slots
           (ap (λ (l : List (Entry Card)). l ++ map entry_of p.burst.ops) held ∙ ap (map entry_of) burst);
       counts = new.counts ∙ ap (λ (k : ℕ). counts_of (take k (answered_from plan 0 []))) (sym new.first);
-      queued = offered ∙ sym (none_asked plan);
+      made = new.made ∙ ap length (sym (entries_from-none plan));
+      queued = offered ∙ sym (entries_from-none plan);
       device = device;
       few = omega (arith, ap length held);
       fresh = subst (All IsFresh) (sym burst) (λ k d lt. absurd (omega (arith, lt)));
@@ -274,15 +260,31 @@ new_burst : (size k : ℕ) (taken burst more : List LogEntry) → k ≡ length t
 new_burst size k taken burst more at filled =
     let behind : drop k ((taken ++ burst) ++ more) ≡ burst ++ more = ap (λ (l : List LogEntry). drop k l) (append_assoc taken burst more) ∙ ap (λ (n : ℕ). drop n (taken ++ (burst ++ more))) at ∙ drop-append_seam taken (burst ++ more) in
     elim filled [
-        inl full ↦ sym (ap (take size) behind ∙ ap (λ (n : ℕ). take n (burst ++ more)) (sym full) ∙ take-append_seam burst more)
+      | inl full ↦ sym (ap (take size) behind ∙ ap (λ (n : ℕ). take n (burst ++ more)) (sym full) ∙ take-append_seam burst more)
       | inr all ↦ sym (ap (take size) behind ∙ ap (λ (l : List LogEntry). take size (burst ++ l)) all.0 ∙ ap (take size) (append-nil burst) ∙ take_all size burst all.1)
     ]
+
+-- ---- the calls with an offer more
+
+flows_with : (size : ℕ) (ops burst : List LogEntry) (n : ℕ) (past : List Call) → burst ≡ next_burst size ops (taken_by past) (rest_of_burst past) → n ≤ length burst → IsDrained past
+    → Flows size ops past → Flows size ops (with_offer burst n past)
+flows_with size ops [] n past right within drained flows = flows
+flows_with size ops (e ∷ es) n past right within drained flows = (right, omega arith, within, drained, flows)
+
+taken_with : (burst : List LogEntry) (n : ℕ) (past : List Call) → n ≤ length burst → taken_by (with_offer burst n past) ≡ taken_by past + n
+taken_with [] n past within = omega (arith, within)
+taken_with (e ∷ es) n past within = refl
+
+rest_with : (burst : List LogEntry) (n : ℕ) (past : List Call) → (burst ≡ [] → rest_of_burst past ≡ []) → rest_of_burst (with_offer burst n past) ≡ drop n burst
+rest_with [] zero past none = none refl
+rest_with [] (suc n) past none = none refl
+rest_with (e ∷ es) n past none = refl
 
 module _ (plan : Plan) (b : Before) (s_tells k_tells : Type 0) (old p : Passage) (o : Outside) (u : IsUnderway plan b s_tells k_tells p o) (at : IsAt o.past old.burst.ops) (filled : IsFilled old p) where
   right_burst : (more : List LogEntry) → ((stop : ReadStop) → p.stop ≡ Some stop → p.waiting.items ≡ [] → more ≡ [])
       → map log_entry p.burst.ops ≡ next_burst b.size (entries_from plan 0 u.used ++ more) (taken_by o.past) (rest_of_burst o.past)
   right_burst more none = elim filled [
-      inl same ↦
+    | inl same ↦
         let is : map log_entry p.burst.ops ≡ rest_of_burst o.past = ap (λ (x : Burst (Op Card)). map log_entry x.ops) same.1 ∙ at.rest in
         same_burst b.size (entries_from plan 0 u.used ++ more) (taken_by o.past) (rest_of_burst o.past) (map log_entry p.burst.ops) is
         (omega (arith, same.0, length-map old.burst.ops (log_entry {C = Card}), ap length at.rest))
@@ -297,17 +299,31 @@ module _ (plan : Plan) (b : Before) (s_tells k_tells : Type 0) (old p : Passage)
   ]
 
   -- the calls of a turn go on as they should
-  pub offers_on : (n : ℕ) (now : List Call) → n ≤ length p.burst.ops → OnlyAsked (Offers (map log_entry p.burst.ops) n ∷ o.past) now
+  pub offers_on : (n : ℕ) (now : List Call) → n ≤ length p.burst.ops → OnlyAsked (with_offer (map log_entry p.burst.ops) n o.past) now
       → (more : List LogEntry) → ((stop : ReadStop) → p.stop ≡ Some stop → p.waiting.items ≡ [] → more ≡ []) → Flows b.size (entries_from plan 0 u.used ++ more) now
   offers_on n now within asked more none =
       asked.flows b.size (entries_from plan 0 u.used ++ more)
-      (right_burst more none, omega (arith, within, length-map p.burst.ops (log_entry {C = Card})), at.drained, u.offers more none)
+      (flows_with b.size (entries_from plan 0 u.used ++ more) (map log_entry p.burst.ops) n o.past (right_burst more none) (omega (arith, within, length-map p.burst.ops (log_entry {C = Card}))) at.drained (u.offers more none))
 
-  pub took_on : (n : ℕ) (now : List Call) → n ≤ length p.burst.ops → OnlyAsked (Offers (map log_entry p.burst.ops) n ∷ o.past) now → length (u.taken ++ front_log n p.burst) ≡ taken_by now
-  took_on n now within asked = omega (arith, length-append u.taken (front_log n p.burst), length-front_log n p.burst within, u.took, asked.taken)
+  pub took_on : (n : ℕ) (now : List Call) → n ≤ length p.burst.ops → OnlyAsked (with_offer (map log_entry p.burst.ops) n o.past) now → length (u.taken ++ front_log n p.burst) ≡ taken_by now
+  took_on n now within asked =
+      omega (
+        arith,
+        length-append u.taken (front_log n p.burst),
+        length-front_log n p.burst within,
+        u.took,
+        asked.taken,
+        taken_with (map log_entry p.burst.ops) n o.past (omega (arith, within, length-map p.burst.ops (log_entry {C = Card}))),
+      )
 
-  pub at_rest : (n : ℕ) (rest : Burst (Op Card)) (now : List Call) → rest ≡ rest_of n p.burst → IsDrained now → OnlyAsked (Offers (map log_entry p.burst.ops) n ∷ o.past) now → IsAt now rest.ops
+  no_rest : map log_entry p.burst.ops ≡ [] → rest_of_burst o.past ≡ []
+  no_rest none = elim filled [
+    | inl same ↦ absurd (omega (arith, same.0, ap (λ (x : Burst (Op Card)). length x.ops) same.1, ap length none, length-map p.burst.ops (log_entry {C = Card})))
+    | inr new ↦ sym at.rest ∙ ap (map log_entry) new.0
+  ]
+
+  pub at_rest : (n : ℕ) (rest : Burst (Op Card)) (now : List Call) → rest ≡ rest_of n p.burst → IsDrained now → OnlyAsked (with_offer (map log_entry p.burst.ops) n o.past) now → IsAt now rest.ops
   at_rest n rest now is drained asked = record {
     drained = drained;
-    rest = ap (λ (x : Burst (Op Card)). map log_entry x.ops) is ∙ map_drop log_entry n p.burst.ops ∙ sym asked.rest;
+    rest = ap (λ (x : Burst (Op Card)). map log_entry x.ops) is ∙ map_drop log_entry n p.burst.ops ∙ sym (rest_with (map log_entry p.burst.ops) n o.past no_rest) ∙ sym asked.rest;
   }

@@ -14,17 +14,18 @@ use Rattle.packet_flow.specs.declared.passage.Passage.{Passage}
 use Rattle.packet_flow.specs.declared.slots.Slot.{Slot}
 use Rattle.packet_flow.specs.declared.slots.Slot.TheVariants.{Open, Ready}
 
--- record n has this slot, and this operation or none
-abbrev pub IsBegunAs : Plan → ℕ → Rec → Slot → List (Op Card) → Type 0
-IsBegunAs plan n r (Ready w) [] = (written_view w ≡ answered plan n r) × (inputs_of (asked plan n r.packet) ≡ [])
-IsBegunAs plan n r (Open kept) (op ∷ []) = IsAsked plan n r kept op
-IsBegunAs plan n r s ops = ⊥
+-- record n has this slot, and operation i or none
+abbrev pub IsBegunAs : Plan → (n i : ℕ) → Rec → Slot → List (Op Card) → Type 0
+IsBegunAs plan n i r (Ready w) [] = (written_view w ≡ answered plan n r) × (inputs_of (asked plan n r.packet) ≡ [])
+IsBegunAs plan n i r (Open kept) (op ∷ []) = IsAsked plan n i r kept op
+IsBegunAs plan n i r s ops = ⊥
 
--- record n got the next slot, and the burst its operation
-pub record AddsSlot (plan : Plan) (n : ℕ) (r : Rec) (ss ss' : List Slot) (old new : Burst (Op Card)) : Type 0 where
+-- Record n got the next slot, and the burst its operation, if it needs one. Before, i operations were made, and now i'.
+pub record AddsSlot (plan : Plan) (n : ℕ) (r : Rec) (i i' : ℕ) (ss ss' : List Slot) (old new : Burst (Op Card)) : Type 0 where
   pub slot : Slot
   pub ops : List (Op Card)
-  pub begun : IsBegunAs plan n r slot ops
+  pub begun : IsBegunAs plan n i r slot ops
+  pub count : i' ≡ i + length ops
   pub slots : ss' ≡ ss ++ slot ∷ []
   pub burst : new ≡ with_ops ops old
 

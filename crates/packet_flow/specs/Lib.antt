@@ -4,6 +4,5 @@ pub mod Slots
 pub mod Turns
 pub mod Entries
 pub mod Flowed
-pub mod Offers
 pub mod Passage
 pub mod Filling

@@ -16,7 +16,7 @@ use Rattle.packet_flow.specs.declared.flow.FlowEnd.{FlowEnd}
 use Rattle.packet_flow.specs.Counts.{counts_of}
 use Rattle.packet_flow.specs.Entries.{entries_from}
 use Rattle.dev_core.specs.Calls.{Call}
-use Rattle.packet_flow.specs.Offers.{Flows, taken_by}
+use Rattle.dev_core.specs.Offers.{Flows, taken_by}
 use Rattle.packet_flow.specs.Flowed.{EndsWhole, Flowed, answer_bytes}
 use Rattle.capture_io.specs.declared.header.ReadStop.{ReadStop}
 use Rattle.packet_flow.specs.Reads.{GoesOn, IsWholeStop}
@@ -55,6 +55,7 @@ pub record IsUnderway (plan : Plan) (b : Before) (s_tells k_tells : Type 0) (p :
   pub writes : k_tells → o.written ≡ b.base ++ flat_map (answer_bytes b.big) (take p.first (answered_from plan 0 used))
   pub between : IsBetween plan used p.first p.slots.items (o.held ++ map entry_of p.burst.ops)
   pub counts : p.counts ≡ counts_of (take p.first (answered_from plan 0 used))
+  pub made : p.made ≡ length (entries_from plan 0 used)
   pub queued : taken ++ map log_entry p.burst.ops ≡ entries_from plan 0 used
   pub device : HasTaken b taken o.enqueued o.log
   pub few : length o.held ≤ length taken
@@ -88,6 +89,7 @@ pub record IsNew (size : ℕ) (p : Passage) : Type 0 where
   pub waiting : p.waiting.items ≡ []
   pub slots : p.slots.items ≡ []
   pub first : p.first ≡ 0
+  pub made : p.made ≡ 0
   pub counts : p.counts ≡ counts_of []
   pub burst : p.burst ≡ record { cap = size; ops = [] }
   pub back : p.back ≡ record { cap = size; ops = [] }

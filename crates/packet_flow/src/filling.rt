@@ -1,5 +1,5 @@
 //! Records are begun, until a burst is full or the capture ends.
-ghost use Rattle.std.specs.Prelude.{◌≡◌, ◌<◌, ◌≤◌, ◌+◌, ◌⊎◌, [], length, IfErr, OnOk, Some, None, Err};
+ghost use Rattle.std.specs.Prelude.{◌≡◌, ◌<◌, ◌≤◌, ◌+◌, ◌^◌, ◌⊎◌, [], length, IfErr, OnOk, Some, None, Err};
 ghost use Rattle.crypto_model.specs.Counts.{Rose};
 ghost use Rattle.capture_io.specs.Capture.{view};
 ghost use Rattle.capture_io.specs.Limits.{IsSmall};
@@ -19,20 +19,23 @@ use packet_plan::{ReadyPlan, Work};
 use std::alloc::Global;
 use std::collections::VecDeque;
 
-// Begins record `n`: it gets the next slot and, where it needs one, an operation of the burst.
+// Begins record `n`: it gets the next slot and, where it needs one, an operation of the burst, whose number is how many
+// were made before.
 fn begin(
     alloc: Global,
     plan: &ReadyPlan,
     n: u32,
     rec: Record,
+    made: &mut u64,
     slots: &mut VecDeque<Slot>,
     burst: &mut OpBurst<Card>,
 ) -> Result<(), OutOfMemory>
     requires small { IsSmall rec }
+    requires few { made.old < 2 ^ 32 }
     requires room { length burst.old.ops < burst.old.cap }
-    ensures { OnOk result (AddsSlot plan.now n (view rec) slots.old.items slots.new.items burst.old burst.new) }
+    ensures { OnOk result (AddsSlot plan.now n (view rec) made.old made.new slots.old.items slots.new.items burst.old burst.new) }
 {
-    match plan.begin(alloc, n, rec)? {
+    match plan.begin(alloc, n, *made, rec)? {
         Work::Ready(written) => {
             let Ok(()) = slots.push_back(Slot::Ready(written)) else {
                 return Err(OutOfMemory);
@@ -43,6 +46,7 @@ fn begin(
                 return Err(OutOfMemory);
             };
             burst.push(op);
+            *made += 1;
         }
     }
     Ok(())
@@ -84,7 +88,15 @@ fn advance<S: Source, K: Sink>(
         };
     };
     let n = passage.first + passage.slots.len() as u32;
-    begin(alloc, plan, n, rec, &mut passage.slots, &mut passage.burst)?;
+    begin(
+        alloc,
+        plan,
+        n,
+        rec,
+        &mut passage.made,
+        &mut passage.slots,
+        &mut passage.burst,
+    )?;
     write_ready(
         out,
         header,

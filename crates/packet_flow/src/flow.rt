@@ -5,8 +5,7 @@ ghost use Rattle.crypto_op.specs.declared.spec.Card.{Card};
 ghost use Rattle.dev_core.specs.Stats.{no_stats};
 ghost use Rattle.packet_plan.specs.Asked.{sessions_of};
 ghost use Rattle.packet_flow.specs.Passage.{Before, EndsAs, IsUnderway, Outside};
-ghost use Rattle.packet_flow.specs.Turns.{NeverIdle};
-ghost use Rattle.packet_flow.specs.Offers.{IsAt};
+ghost use Rattle.packet_flow.specs.Turns.{IsAt, NeverIdle};
 ghost use Rattle.dev_core.specs.Calls.{Call, Ran};
 
 use crate::counts::Counts;
@@ -118,9 +117,9 @@ pub struct Flow {
     pub counts: Counts,
 }
 
-/// Sends the packets of a capture, behind its header, through a driver: the plan makes operations of them, which are
-/// offered in bursts of at most `size`, the rest of a burst before a new one is begun, and the records are written in
-/// their order as soon as they are answered. The driver holds nothing, and has the plan's sessions.
+/// Sends the packets of a capture, behind its header, through a driver: the plan makes operations of them, numbered
+/// from 0, which are offered in bursts of at most `size`, the rest of a burst before a new one is begun, and the records
+/// are written in their order as soon as they are answered. The driver holds nothing, and has the plan's sessions.
 ///
 /// A turn that moves nothing is one in which the driver stalled. It may do so 4,096 times, and as often again for each
 /// operation that it accepted.

@@ -33,3 +33,6 @@ mod writing;
 
 pub use counts::Counts;
 pub use flow::{Flow, FlowEnd, transfer};
+
+#[cfg(test)]
+mod tests;

@@ -23,6 +23,8 @@ pub(crate) struct Passage {
     pub(crate) slots: VecDeque<Slot>,
     /// The number of the first slot's record.
     pub(crate) first: u32,
+    /// How many operations were made.
+    pub(crate) made: u64,
     /// What was written.
     pub(crate) counts: Counts,
     /// Operations that are not accepted yet.
@@ -43,6 +45,7 @@ impl Passage {
             waiting: VecDeque::new(alloc),
             slots: VecDeque::new(alloc),
             first: 0,
+            made: 0,
             counts: Counts::new(),
             burst: OpBurst::new(alloc, size)?,
             back: OpBurst::new(alloc, size)?,

@@ -118,13 +118,13 @@ asked_pass plan n packet is = ap (λ (c : Choice). asked_by plan (chosen_from 0 
 -- ---- the record
 
 -- no session is chosen
-pub passes : (plan : Plan) (n : ℕ) (r : Rec) (w : Written) → (chosen_from 0 plan.rules plan.otherwise r.packet).choice ≡ Pass
-    → written_view w ≡ record { rec = r; fate = Passed } → IsBegun plan n r (work.Ready w)
-passes plan n r w is view =
+pub passes : (plan : Plan) (n i : ℕ) (r : Rec) (w : Written) → (chosen_from 0 plan.rules plan.otherwise r.packet).choice ≡ Pass
+    → written_view w ≡ record { rec = r; fate = Passed } → IsBegun plan n i r (work.Ready w)
+passes plan n i r w is view =
     let asks = asked_pass plan n r.packet is in
     (view ∙ ap (answered_as plan r) (sym asks), ap inputs_of asks)
 
-works : (plan : Plan) (r : Rec) (s : Named) (e : Errand) (w : Work) → Chooses plan r.packet s e → IsBegunBy (ready_of s) e r w → IsBegun plan e.card.packet r w
+works : (plan : Plan) (r : Rec) (s : Named) (e : Errand) (w : Work) → Chooses plan r.packet s e → IsBegunBy (ready_of s) e r w → IsBegun plan e.card.packet e.pos r w
 works plan r s e (work.Ready w) is (short, view) =
     let asks : asked plan e.card.packet r.packet ≡ TooShort = rw short at (asked_use plan r.packet s e is) in
     (view ∙ ap (answered_as plan r) (sym asks), ap inputs_of asks)
@@ -140,6 +140,6 @@ works plan r s e (work.Needs kept op) is at =
 
 -- a session is chosen, and its way is known
 pub begun_is : {E : Type 0} (plan : Plan) (r : Rec) (s : Named) (e : Errand) (way : SessionWay) (result : Result Work E) → Chooses plan r.packet s e → way ≡ ready_of s
-    → IfOk result (IsBegunBy way e r) → IfOk result (IsBegun plan e.card.packet r)
+    → IfOk result (IsBegunBy way e r) → IfOk result (IsBegun plan e.card.packet e.pos r)
 begun_is plan r s e way (Ok w) is ready begun = works plan r s e w is (subst (λ (x : SessionWay). IsBegunBy x e r w) ready begun)
 begun_is plan r s e way (Err x) is ready begun = tt

@@ -71,7 +71,7 @@ spec_by s e packet = record {
   auth = code_range s.way (length packet);
   place = digest_place s.way (length packet);
   digest = replicate 64 0;
-  pos = e.card.packet;
+  pos = e.pos;
 }
 
 -- the same as processing takes it, with room for a digest
@@ -103,7 +103,7 @@ pub record IsMade (s : SessionWay) (e : Errand) (r : Rec) (k : Kept) (op : Op Ca
   pub long : is_short s.way e.skip (length r.packet) ≡ false
   pub input : input_of (made op) ≡ input_by s e r.packet
   pub fresh : IsFresh op
-  pub pos : op.spec.pos ≡ e.card.packet
+  pub pos : op.spec.pos ≡ e.pos
   pub cargo : op.cargo ≡ e.card
   pub kept : kept_rec k ≡ r
 

@@ -20,15 +20,15 @@ written_view w = record { rec = view w.rec; fate = w.fate }
 abbrev pub kept_rec : Kept → Rec
 kept_rec k = record { sec = k.sec; frac = k.frac; orig = k.orig; packet = packet_of k.read.value }
 
--- an operation that was made for record n
-pub record IsAsked (plan : Plan) (n : ℕ) (r : Rec) (k : Kept) (op : Op Card) : Type 0 where
+-- operation i, which was made for record n
+pub record IsAsked (plan : Plan) (n i : ℕ) (r : Rec) (k : Kept) (op : Op Card) : Type 0 where
   pub asked : asked plan n r.packet ≡ Works op.cargo (input_of (made op))
   pub fresh : IsFresh op
-  pub pos : op.spec.pos ≡ n
+  pub pos : op.spec.pos ≡ i
   pub number : op.cargo.packet ≡ n
   pub kept : kept_rec k ≡ r
 
--- record n needs no operation and is ready, or one was made for it
-abbrev pub IsBegun : Plan → ℕ → Rec → Work → Type 0
-IsBegun plan n r (work.Ready w) = (written_view w ≡ answered plan n r) × (inputs_of (asked plan n r.packet) ≡ [])
-IsBegun plan n r (work.Needs kept op) = IsAsked plan n r kept op
+-- record n needs no operation and is ready, or operation i was made for it
+abbrev pub IsBegun : Plan → (n i : ℕ) → Rec → Work → Type 0
+IsBegun plan n i r (work.Ready w) = (written_view w ≡ answered plan n r) × (inputs_of (asked plan n r.packet) ≡ [])
+IsBegun plan n i r (work.Needs kept op) = IsAsked plan n i r kept op

@@ -28,6 +28,8 @@ pub(crate) struct Errand {
     /// How many of the packet's first bytes are left as they are.
     pub(crate) skip: u32,
     pub(crate) card: Card,
+    /// The operation's number.
+    pub(crate) pos: u64,
 }
 
 // The operation for a packet that is long enough.

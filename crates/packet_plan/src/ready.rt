@@ -86,11 +86,17 @@ impl ReadyPlan {
         table_of(alloc, self.plan.sessions.items())
     }
 
-    /// Begins record `n`. Where the plan chooses a session and the packet is long enough, this makes the
-    /// operation. The record is dropped where memory is wanting.
-    pub fn begin(&self, alloc: Global, n: u32, rec: Record) -> Result<Work, OutOfMemory>
+    /// Begins record `n`. Where the plan chooses a session and the packet is long enough, this makes an
+    /// operation, which gets the number `pos`. The record is dropped where memory is wanting.
+    pub fn begin(
+        &self,
+        alloc: Global,
+        n: u32,
+        pos: u64,
+        rec: Record,
+    ) -> Result<Work, OutOfMemory>
         requires small { IsSmall rec }
-        ensures { IfOk result (IsBegun self.now n (view rec)) }
+        ensures { IfOk result (IsBegun self.now n pos (view rec)) }
     {
         let chosen = choose(self.plan.rules.items(), self.plan.otherwise, &rec.packet);
         match chosen.choice {
@@ -107,6 +113,7 @@ impl ReadyPlan {
                     session,
                     skip,
                     card,
+                    pos,
                 };
                 begun(alloc, &self.ways[session.0 as usize], errand, rec)
             }

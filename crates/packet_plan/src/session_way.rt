@@ -72,7 +72,7 @@ impl SessionWay {
             auth: way.code_range(len),
             place: way.digest_place(len),
             digest: [0; 64],
-            pos: u64::from(errand.card.packet),
+            pos: errand.pos,
         })
     }
 }

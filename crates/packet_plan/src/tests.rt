@@ -1,4 +1,4 @@
-use crate::{Fate, ReadyPlan, Work, quick_plan};
+use crate::{Fate, Kept, ReadyPlan, Work, Written, quick_plan};
 use aes_core::Key;
 use capture_io::Record;
 use crypto_model::{DigestPlace, Range, slow_encrypt};
@@ -12,6 +12,8 @@ use std::test::Fail;
 const KEY: &[u8; 16] = b"0123456789abcdef";
 
 const NUMBER: u32 = 0x0a0b_0c0d;
+
+const POS: u64 = 0x0102_0304_0506_0708;
 
 // The plan of a text with session `s` behind its first line. Each key is `KEY`.
 fn ready(alloc: Global, session: &str, rest: &str) -> Result<ReadyPlan, Fail> {
@@ -47,7 +49,7 @@ fn begin(alloc: Global, plan: &ReadyPlan, len: usize) -> Result<Work, Fail> {
     if 2048 < rec.packet.len() || 1 < rec.packet.seg_count() || 3000 < rec.orig {
         return Err("not the record".into());
     }
-    Ok(plan.begin(alloc, NUMBER, rec)?)
+    Ok(plan.begin(alloc, NUMBER, POS, rec)?)
 }
 
 fn operation(alloc: Global, plan: &ReadyPlan, len: usize) -> Result<Op<Card>, Fail> {
@@ -170,8 +172,8 @@ fn a_packet_of_60_bytes_is_asked_for_by_its_session(rt: HostRuntime) -> Result<(
         assert_eq!(rt; spec.aad.bytes(), aad, "{session}");
         assert_eq!(rt; spec.iv.bytes(), iv, "{session}");
         assert_eq!(rt;
-            (op.chain().len(), spec.pos),
-            (len, 0x0a0b_0c0d),
+            (op.chain().len(), spec.pos, op.cargo().packet),
+            (len, POS, NUMBER),
             "{session}"
         );
     }
@@ -274,4 +276,17 @@ fn quick_works_on_every_packet_whole(rt: HostRuntime) -> Result<(), Fail> {
     assert_eq!(rt; op.spec().iv.bytes(), COUNTER);
     assert_eq!(rt; plan.table(alloc)?.len(), 1);
     Ok(())
+}
+
+fn can_be_sent<T: Send>() {}
+
+fn can_be_shared<T: Sync>() {}
+
+#[test]
+fn plans_and_what_is_kept_of_records_go_to_other_threads(_rt: HostRuntime) {
+    can_be_sent::<ReadyPlan>();
+    can_be_shared::<ReadyPlan>();
+    can_be_sent::<Kept>();
+    can_be_sent::<Written>();
+    can_be_sent::<Work>();
 }

@@ -6,7 +6,7 @@ use Rattle.capture_io.specs.declared.header.ReadStop.TheVariants as read_stop
 use Rattle.packet_flow.specs.declared.flow.FlowEnd.TheVariants.{Stopped, WriteFault, OutOfMemory}
 use Rattle.packet_flow.specs.declared.passage.Passage.{Passage}
 use Rattle.packet_flow.proofs.Bags.{none_left}
-use Rattle.packet_flow.proofs.Begun.{begun_and_cut, begun_and_written, ended_early, few_slots, if_err_is, none_stopped, read_on, stop_read, whole_stop, writable}
+use Rattle.packet_flow.proofs.Begun.{begun_and_cut, begun_and_written, ended_early, few_made, few_slots, if_err_is, none_stopped, read_on, stop_read, whole_stop, writable}
 use Rattle.packet_flow.proofs.filling.advance.Goals as goal
 
 pub returns-in_default-stop-clause-underway : goal.returns-in_default-stop-clause-underway
@@ -64,6 +64,9 @@ overflow_add-n g c =
     let r = c.requires.underway in
     omega (arith, few_slots c.args.plan.now r.0 g.S.Source.tells g.K.Sink.tells c.args.passage.now r.1 r.5, c.len.ensures)
 
+pub begin-requires-clause-few : goal.begin-requires-clause-few
+begin-requires-clause-few g c = let r = c.requires.underway in omega (arith, few_made c.args.plan.now r.0 g.S.Source.tells g.K.Sink.tells c.args.passage.now r.1 r.5)
+
 pub returns-in_err-begin-clause-ends : goal.returns-in_err-begin-clause-ends
 returns-in_err-begin-clause-ends g c b o big left wrote u =
     if_err_is c.from_residual.result _ OutOfMemory (err_from_is_err_and c.from_residual.result c.from_residual.ensures.1)
@@ -76,7 +79,7 @@ write_ready-requires g c =
     let p = c.args.passage.now in
     let at = ap (λ (k : ℕ). p.first + k) (c.len.ensures ∙ p.slots.ok.0) in
     writable c.args.plan.now r.0 g.S.Source.tells g.K.Sink.tells p r.1 r.5 c.in-Some.rec c.pop_front.new.self.items c.in-Some.ensures.items (p.first + c.len.result) at
-    c.begin.new.slots.items c.begin.new.burst c.in_ok-begin.ensures
+    c.begin.new.slots.items c.begin.new.burst c.begin.new.made c.in_ok-begin.ensures
 
 pub returns-in_err-write_ready-clause-ends : goal.returns-in_err-write_ready-clause-ends
 returns-in_err-write_ready-clause-ends g c b o big left wrote u =
@@ -84,7 +87,7 @@ returns-in_err-write_ready-clause-ends g c b o big left wrote u =
     let at = ap (λ (k : ℕ). p.first + k) (c.len.ensures ∙ p.slots.ok.0) in
     if_err_is c.from_residual-in_err-write_ready.result _ WriteFault (err_from_is_err_and c.from_residual-in_err-write_ready.result c.from_residual-in_err-write_ready.ensures.1)
     (begun_and_cut c.args.plan.now b g.S.Source.tells g.K.Sink.tells p o u c.in-Some.rec c.pop_front.new.self.items c.in-Some.ensures.items (p.first + c.len.result) at
-    c.begin.new.slots.items c.begin.new.burst c.in_ok-begin.ensures
+    c.begin.new.slots.items c.begin.new.burst c.begin.new.made c.in_ok-begin.ensures
     c.args.header.now.big (g.K.Sink.written c.args.out.now) (g.K.Sink.written c.write_ready.new.out) (g.S.Source.left c.args.src.now) big left wrote
     c.write_ready.new.first c.write_ready.new.counts c.write_ready.ensures.counts c.in_err-write_ready.ensures.fault)
 
@@ -93,7 +96,7 @@ returns-clause-underway g c b o big left wrote u =
     let p = c.args.passage.now in
     let at = ap (λ (k : ℕ). p.first + k) (c.len.ensures ∙ p.slots.ok.0) in
     begun_and_written c.args.plan.now b g.S.Source.tells g.K.Sink.tells p o u c.in-Some.rec c.pop_front.new.self.items c.in-Some.ensures.items (p.first + c.len.result) at
-    c.begin.new.slots.items c.begin.new.burst c.in_ok-begin.ensures
+    c.begin.new.slots.items c.begin.new.burst c.begin.new.made c.in_ok-begin.ensures
     c.args.header.now.big (g.K.Sink.written c.args.out.now) (g.K.Sink.written c.write_ready.new.out) (g.S.Source.left c.args.src.now) big left wrote
-    (record p { waiting = c.pop_front.new.self; slots = c.write_ready.new.slots; first = c.write_ready.new.first; counts = c.write_ready.new.counts; burst = c.begin.new.burst })
-    refl refl c.in_ok-write_ready.ensures.between c.write_ready.ensures.counts c.in_ok-write_ready.ensures.written c.in_ok-write_ready.ensures.waits
+    (record p { waiting = c.pop_front.new.self; slots = c.write_ready.new.slots; first = c.write_ready.new.first; counts = c.write_ready.new.counts; burst = c.begin.new.burst; made = c.begin.new.made })
+    refl refl refl c.in_ok-write_ready.ensures.between c.write_ready.ensures.counts c.in_ok-write_ready.ensures.written c.in_ok-write_ready.ensures.waits

@@ -14,7 +14,7 @@ use Rattle.packet_flow.specs.Entries.{entries_from}
 use Rattle.packet_flow.specs.declared.flow.FlowEnd.TheVariants as flow_end
 use Rattle.packet_flow.specs.Passage.{Outside}
 use Rattle.packet_flow.proofs.Ends.{begun_first, ends_cut, ends_whole, flows_behind}
-use Rattle.packet_flow.proofs.Turning.{few_taken, few_held, queued_on, device_on, few_on, moved_by, some_moves, all_read, no_items, some_items, no_fault, written_by, cut_by, if_err_at, not_err_at, at_rest, offers_on, took_on}
+use Rattle.packet_flow.proofs.Turning.{enqueued_few, few_taken, few_held, queued_on, device_on, few_on, moved_by, some_moves, all_read, no_items, some_items, no_fault, written_by, cut_by, if_err_at, not_err_at, at_rest, offers_on, took_on}
 use Rattle.packet_flow.proofs.flow.step.Goals.{else-len-eq0-via-then-len-eq0+else-is_empty, else-len-eq0-via-else-len-eq0}
 use Rattle.packet_flow.proofs.flow.step.Goals as goal
 
@@ -30,11 +30,14 @@ pub returns-then-is_empty-clause-ends : goal.returns-then-is_empty-clause-ends
 returns-then-is_empty-clause-ends g c b past first big at ran u0 =
     let p = c.fill.new.passage in
     let u = c.in_ok-fill.ensures.underway b _ big refl refl u0 in
-    let none : length p.burst.ops ≡ 0 = omega (arith, c.len.ensures, c.if-len-eq0.true) in
-    (past, ran, ends_whole c.args.plan.now b g.S.Source.tells g.K.Sink.tells p
-    (record { left = g.S.Source.left c.fill.new.src; written = g.K.Sink.written c.fill.new.out; held = g.D.Driver.held c.args.dev.now; enqueued = (g.D.Driver.stats c.args.dev.now).enqueued; log = g.D.Driver.log c.args.dev.now; past = past })
-    c.in-Some.stop u c.in-Some.is (all_read (length p.burst.ops) p.waiting.items p.stop c.in_ok-fill.ensures.full none)
-    (nil_from_length p.burst.ops none) (no_items p.slots.len p.slots.items c.is_empty.result p.slots.ok.0 c.is_empty.ensures c.if-is_empty.true))
+    let none : length p.burst.ops ≡ 0 = omega (arith, c.len.ensures, c.if-len-eq0.true) in (
+      past,
+      ran,
+      ends_whole c.args.plan.now b g.S.Source.tells g.K.Sink.tells p
+          (record { left = g.S.Source.left c.fill.new.src; written = g.K.Sink.written c.fill.new.out; held = g.D.Driver.held c.args.dev.now; enqueued = (g.D.Driver.stats c.args.dev.now).enqueued; log = g.D.Driver.log c.args.dev.now; past = past })
+          c.in-Some.stop u c.in-Some.is (all_read (length p.burst.ops) p.waiting.items p.stop c.in_ok-fill.ensures.full none)
+          (nil_from_length p.burst.ops none) (no_items p.slots.len p.slots.items c.is_empty.result p.slots.ok.0 c.is_empty.ensures c.if-is_empty.true),
+    )
 
 pub returns-then-is_empty-clause-ended : goal.returns-then-is_empty-clause-ended
 returns-then-is_empty-clause-ended g c told is =
@@ -62,6 +65,11 @@ turn-accepted-requires-clause-few g c =
     let u = c.in_ok-fill.ensures.underway c.requires.underway.0 _ c.requires.underway.2 refl refl c.requires.underway.4 in
     omega (arith, few_held c.args.plan.now c.requires.underway.0 g.S.Source.tells g.K.Sink.tells c.fill.new.passage _ u)
 
+pub turn-accepted-requires-clause-counted : goal.turn-accepted-requires-clause-counted
+turn-accepted-requires-clause-counted g c =
+    let u = c.in_ok-fill.ensures.underway c.requires.underway.0 _ c.requires.underway.2 refl refl c.requires.underway.4 in
+    omega (arith, enqueued_few c.args.plan.now c.requires.underway.0 g.S.Source.tells g.K.Sink.tells c.fill.new.passage _ u)
+
 pub turn-accepted-requires-clause-between : goal.turn-accepted-requires-clause-between
 turn-accepted-requires-clause-between g c =
     let u = c.in_ok-fill.ensures.underway c.requires.underway.0 _ c.requires.underway.2 refl refl c.requires.underway.4 in
@@ -82,18 +90,21 @@ returns-in_err-write_ready-clause-ends g c b past first big at ran u0 =
     let counts = c.write_ready.ensures.counts plan u.used _ between u.counts in
     let now = c.turn-accepted.ensures.calls first past ran in
     let o0 : Outside = record { left = g.S.Source.left c.fill.new.src; written = g.K.Sink.written c.fill.new.out; held = g.D.Driver.held c.args.dev.now; enqueued = (g.D.Driver.stats c.args.dev.now).enqueued; log = g.D.Driver.log c.args.dev.now; past = past } in
-    if_err_at c.from_residual-in_err-write_ready.result flow_end.WriteFault _ c.from_residual-in_err-write_ready.ensures.1
-    (now.0, now.1, ends_cut plan b g.S.Source.tells g.K.Sink.tells
-    (record { left = g.S.Source.left c.fill.new.src; written = g.K.Sink.written c.write_ready.new.out; held = g.D.Driver.held c.turn-accepted.new.dev; enqueued = (g.D.Driver.stats c.turn-accepted.new.dev).enqueued; log = g.D.Driver.log c.turn-accepted.new.dev; past = now.0 })
-    c.write_ready.new.counts u.used (u.taken ++ front_log n p.burst) (map log_entry c.turn-accepted.new.burst.ops) c.write_ready.new.first
-    (λ told. begun_first b.big b.bytes u.used (map view p.waiting.items) p.place (g.S.Source.left c.fill.new.src) p.stop (u.reads told))
-    (queued_on u.taken (entries_from plan 0 u.used) n p.burst c.turn-accepted.new.burst c.turn-accepted.ensures.rest u.queued)
-    (device_on b u.taken n p.burst _ _ _ _ c.turn-accepted.ensures.within u.device c.turn-accepted.ensures.enqueued c.turn-accepted.ensures.log)
-    (took_on plan b g.S.Source.tells g.K.Sink.tells c.args.passage.now p o0 u at c.in_ok-fill.ensures.filled n now.0 c.turn-accepted.ensures.within now.3)
-    (flows_behind plan b g.S.Source.tells g.K.Sink.tells p o0 u now.0 (offers_on plan b g.S.Source.tells g.K.Sink.tells c.args.passage.now p o0 u at c.in_ok-fill.ensures.filled n now.0 c.turn-accepted.ensures.within now.3))
-    counts.0 counts.1
-    (λ told. cut_by b.big c.args.header.now.big big (answered_from plan 0 u.used) p.first c.write_ready.new.first b.base (g.K.Sink.written c.fill.new.out) (g.K.Sink.written c.write_ready.new.out)
-    (u.writes told) (c.in_err-write_ready.ensures.fault told plan u.used _ between b.base)))
+    if_err_at c.from_residual-in_err-write_ready.result flow_end.WriteFault _ c.from_residual-in_err-write_ready.ensures.1 (
+      now.0,
+      now.1,
+      ends_cut plan b g.S.Source.tells g.K.Sink.tells
+          (record { left = g.S.Source.left c.fill.new.src; written = g.K.Sink.written c.write_ready.new.out; held = g.D.Driver.held c.turn-accepted.new.dev; enqueued = (g.D.Driver.stats c.turn-accepted.new.dev).enqueued; log = g.D.Driver.log c.turn-accepted.new.dev; past = now.0 })
+          c.write_ready.new.counts u.used (u.taken ++ front_log n p.burst) (map log_entry c.turn-accepted.new.burst.ops) c.write_ready.new.first
+          (λ told. begun_first b.big b.bytes u.used (map view p.waiting.items) p.place (g.S.Source.left c.fill.new.src) p.stop (u.reads told))
+          (queued_on u.taken (entries_from plan 0 u.used) n p.burst c.turn-accepted.new.burst c.turn-accepted.ensures.rest u.queued)
+          (device_on b u.taken n p.burst _ _ _ _ c.turn-accepted.ensures.within u.device c.turn-accepted.ensures.enqueued c.turn-accepted.ensures.log)
+          (took_on plan b g.S.Source.tells g.K.Sink.tells c.args.passage.now p o0 u at c.in_ok-fill.ensures.filled n now.0 c.turn-accepted.ensures.within now.3)
+          (flows_behind plan b g.S.Source.tells g.K.Sink.tells p o0 u now.0 (offers_on plan b g.S.Source.tells g.K.Sink.tells c.args.passage.now p o0 u at c.in_ok-fill.ensures.filled n now.0 c.turn-accepted.ensures.within now.3))
+          counts.0 counts.1
+          (λ told. cut_by b.big c.args.header.now.big big (answered_from plan 0 u.used) p.first c.write_ready.new.first b.base (g.K.Sink.written c.fill.new.out) (g.K.Sink.written c.write_ready.new.out)
+          (u.writes told) (c.in_err-write_ready.ensures.fault told plan u.used _ between b.base)),
+    )
 
 pub overflow_add-result : goal.overflow_add-result
 overflow_add-result g c =
@@ -110,30 +121,35 @@ returns-clause-underway g c b past first big at ran u0 =
     let counts = c.write_ready.ensures.counts plan u.used _ between u.counts in
     let now = c.turn-accepted.ensures.calls first past ran in
     let o0 : Outside = record { left = g.S.Source.left c.fill.new.src; written = g.K.Sink.written c.fill.new.out; held = g.D.Driver.held c.args.dev.now; enqueued = (g.D.Driver.stats c.args.dev.now).enqueued; log = g.D.Driver.log c.args.dev.now; past = past } in
-    let filled = c.in_ok-fill.ensures.filled in
-    (now.0, at_rest plan b g.S.Source.tells g.K.Sink.tells c.args.passage.now p o0 u at filled n c.turn-accepted.new.burst now.0 c.turn-accepted.ensures.rest now.2 now.3, now.1, record {
-      used = u.used;
-      taken = u.taken ++ front_log n p.burst;
-      reads = u.reads;
-      writes = λ told. written_by b.big c.args.header.now.big big (answered_from plan 0 u.used) p.first c.write_ready.new.first b.base (g.K.Sink.written c.fill.new.out) (g.K.Sink.written c.write_ready.new.out)
-          (u.writes told) (c.in_ok-write_ready.ensures.written told plan u.used _ between b.base);
-      between = c.in_ok-write_ready.ensures.between plan u.used _ between;
-      counts = counts.1;
-      queued = queued_on u.taken (entries_from plan 0 u.used) n p.burst c.turn-accepted.new.burst c.turn-accepted.ensures.rest u.queued;
-      device = device_on b u.taken n p.burst _ _ _ _ c.turn-accepted.ensures.within u.device c.turn-accepted.ensures.enqueued c.turn-accepted.ensures.log;
-      few = few_on u.taken n c.turn-accepted.result.1 (length (g.D.Driver.held c.args.dev.now)) (length (g.D.Driver.held c.turn-accepted.new.dev)) p.burst c.turn-accepted.ensures.within u.few c.turn-accepted.ensures.count;
-      fresh = subst (λ (x : Burst (Op Card)). All IsFresh x.ops) (sym c.turn-accepted.ensures.rest) (All-drop IsFresh n p.burst.ops u.fresh);
-      front = c.in_ok-write_ready.ensures.waits;
-      stopped = u.stopped;
-      small = u.small;
-      count = u.count;
-      range = u.range;
-      place = u.place;
-      back = ap (λ (x : Burst (Op Card)). x.ops) c.turn-accepted.ensures.emptied ∙ u.back;
-      sizes = (ap (λ (x : Burst (Op Card)). x.cap) c.turn-accepted.ensures.rest ∙ u.sizes.0, ap (λ (x : Burst (Op Card)). x.cap) c.turn-accepted.ensures.emptied ∙ u.sizes.1, u.sizes.2);
-      took = took_on plan b g.S.Source.tells g.K.Sink.tells c.args.passage.now p o0 u at filled n now.0 c.turn-accepted.ensures.within now.3;
-      offers = offers_on plan b g.S.Source.tells g.K.Sink.tells c.args.passage.now p o0 u at filled n now.0 c.turn-accepted.ensures.within now.3;
-    })
+    let filled = c.in_ok-fill.ensures.filled in (
+      now.0,
+      at_rest plan b g.S.Source.tells g.K.Sink.tells c.args.passage.now p o0 u at filled n c.turn-accepted.new.burst now.0 c.turn-accepted.ensures.rest now.2 now.3,
+      now.1,
+      record {
+        used = u.used;
+        taken = u.taken ++ front_log n p.burst;
+        reads = u.reads;
+        writes = λ told. written_by b.big c.args.header.now.big big (answered_from plan 0 u.used) p.first c.write_ready.new.first b.base (g.K.Sink.written c.fill.new.out) (g.K.Sink.written c.write_ready.new.out)
+            (u.writes told) (c.in_ok-write_ready.ensures.written told plan u.used _ between b.base);
+        between = c.in_ok-write_ready.ensures.between plan u.used _ between;
+        counts = counts.1;
+        made = u.made;
+        queued = queued_on u.taken (entries_from plan 0 u.used) n p.burst c.turn-accepted.new.burst c.turn-accepted.ensures.rest u.queued;
+        device = device_on b u.taken n p.burst _ _ _ _ c.turn-accepted.ensures.within u.device c.turn-accepted.ensures.enqueued c.turn-accepted.ensures.log;
+        few = few_on u.taken n c.turn-accepted.result.1 (length (g.D.Driver.held c.args.dev.now)) (length (g.D.Driver.held c.turn-accepted.new.dev)) p.burst c.turn-accepted.ensures.within u.few c.turn-accepted.ensures.count;
+        fresh = subst (λ (x : Burst (Op Card)). All IsFresh x.ops) (sym c.turn-accepted.ensures.rest) (All-drop IsFresh n p.burst.ops u.fresh);
+        front = c.in_ok-write_ready.ensures.waits;
+        stopped = u.stopped;
+        small = u.small;
+        count = u.count;
+        range = u.range;
+        place = u.place;
+        back = ap (λ (x : Burst (Op Card)). x.ops) c.turn-accepted.ensures.emptied ∙ u.back;
+        sizes = (ap (λ (x : Burst (Op Card)). x.cap) c.turn-accepted.ensures.rest ∙ u.sizes.0, ap (λ (x : Burst (Op Card)). x.cap) c.turn-accepted.ensures.emptied ∙ u.sizes.1, u.sizes.2);
+        took = took_on plan b g.S.Source.tells g.K.Sink.tells c.args.passage.now p o0 u at filled n now.0 c.turn-accepted.ensures.within now.3;
+        offers = offers_on plan b g.S.Source.tells g.K.Sink.tells c.args.passage.now p o0 u at filled n now.0 c.turn-accepted.ensures.within now.3;
+      },
+    )
 
 pub returns-clause-moved : goal.returns-clause-moved
 returns-clause-moved g c =

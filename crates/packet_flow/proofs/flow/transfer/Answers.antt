@@ -11,16 +11,24 @@ use Rattle.packet_flow.proofs.Turning.{counted_few, ends_unbegun, enqueued_few, 
 use Rattle.packet_flow.proofs.flow.transfer.Goals as goal
 
 pub returns-in_default-clause-ends : goal.returns-in_default-clause-ends
-returns-in_default-clause-ends g c =
-    ([], refl, ends_unbegun c.args.plan.now (record { big = c.args.header.now.big; bytes = g.S.Source.left c.args.src.now; base = g.K.Sink.written c.args.out.now; log = g.D.Driver.log c.args.dev.now; size = c.args.size })
-    g.S.Source.tells g.K.Sink.tells
-    (record { left = g.S.Source.left c.args.src.now; written = g.K.Sink.written c.args.out.now; held = g.D.Driver.held c.args.dev.now; enqueued = (g.D.Driver.stats c.args.dev.now).enqueued; log = g.D.Driver.log c.args.dev.now; past = [] })
-    c.new-in_default.result refl (record { enqueued_is = omega (arith, ap (λ (s : Stats). s.enqueued) c.requires.stats); log_is = c.requires.log }) refl c.new-in_default.ensures)
+returns-in_default-clause-ends g c = (
+  [],
+  refl,
+  ends_unbegun c.args.plan.now (record { big = c.args.header.now.big; bytes = g.S.Source.left c.args.src.now; base = g.K.Sink.written c.args.out.now; log = g.D.Driver.log c.args.dev.now; size = c.args.size })
+      g.S.Source.tells g.K.Sink.tells
+      (record { left = g.S.Source.left c.args.src.now; written = g.K.Sink.written c.args.out.now; held = g.D.Driver.held c.args.dev.now; enqueued = (g.D.Driver.stats c.args.dev.now).enqueued; log = g.D.Driver.log c.args.dev.now; past = [] })
+      c.new-in_default.result refl (record { enqueued_is = omega (arith, ap (λ (s : Stats). s.enqueued) c.requires.stats); log_is = c.requires.log }) refl c.new-in_default.ensures,
+)
 
 pub loop-moved-init : goal.loop-moved-init
 loop-moved-init g c = record {
-  underway = ([], record { drained = tt; rest = ap (λ (x : Burst (Op Card)). map log_entry x.ops) c.in-Ok.ensures.burst }, refl, new_underway c.args.plan.now _ g.S.Source.tells g.K.Sink.tells c.args.size c.in-Ok.passage _ c.requires.size.0 refl refl c.in-Ok.ensures
-      (record { enqueued_is = omega (arith, ap (λ (s : Stats). s.enqueued) c.requires.stats); log_is = c.requires.log }) refl refl c.requires.idle);
+  underway = (
+    [],
+    record { drained = tt; rest = ap (λ (x : Burst (Op Card)). map log_entry x.ops) c.in-Ok.ensures.burst },
+    refl,
+    new_underway c.args.plan.now _ g.S.Source.tells g.K.Sink.tells c.args.size c.in-Ok.passage _ c.requires.size.0 refl refl c.in-Ok.ensures
+        (record { enqueued_is = omega (arith, ap (λ (s : Stats). s.enqueued) c.requires.stats); log_is = c.requires.log }) refl refl c.requires.idle,
+  );
   sessions = refl;
   follows = g.met.D.Driver.follows_itself _;
   later = omega arith;
@@ -85,10 +93,13 @@ pub returns-then-stalled-stats-clause-ends : goal.returns-then-stalled-stats-cla
 returns-then-stalled-stats-clause-ends g c =
     let b : Before = record { big = c.args.header.now.big; bytes = g.S.Source.left c.args.src.now; base = g.K.Sink.written c.args.out.now; log = g.D.Driver.log c.args.dev.now; size = c.args.size } in
     let u = c.loop-moved.invariant.underway in
-    let now = c.in-Ok-step.ensures.underway b u.0 c.args.dev.now refl u.1 u.2 u.3 in
-    (now.0, now.2, ends_early c.args.plan.now b g.S.Source.tells g.K.Sink.tells c.step.new.passage
-    (record { left = g.S.Source.left c.step.new.src; written = g.K.Sink.written c.step.new.out; held = g.D.Driver.held c.step.new.dev; enqueued = (g.D.Driver.stats c.step.new.dev).enqueued; log = g.D.Driver.log c.step.new.dev; past = now.0 })
-    flow_end.Stalled c.step.new.passage.counts (λ w. w) (λ is. cc) now.3 refl)
+    let now = c.in-Ok-step.ensures.underway b u.0 c.args.dev.now refl u.1 u.2 u.3 in (
+      now.0,
+      now.2,
+      ends_early c.args.plan.now b g.S.Source.tells g.K.Sink.tells c.step.new.passage
+          (record { left = g.S.Source.left c.step.new.src; written = g.K.Sink.written c.step.new.out; held = g.D.Driver.held c.step.new.dev; enqueued = (g.D.Driver.stats c.step.new.dev).enqueued; log = g.D.Driver.log c.step.new.dev; past = now.0 })
+          flow_end.Stalled c.step.new.passage.counts (λ w. w) (λ is. cc) now.3 refl,
+    )
 
 pub returns-then-stalled-stats-clause-stalled : goal.returns-then-stalled-stats-clause-stalled
 returns-then-stalled-stats-clause-stalled g c is =

@@ -1,6 +1,6 @@
 use Rattle.std.proofs.Common.{◌≡◌, ◌+◌, ◌*◌, ◌<◌, ◌≤◌, List, length}
 use Rattle.dev_core.specs.Calls.{Call, Ran}
-use Rattle.packet_flow.specs.Offers.{IsAt}
+use Rattle.packet_flow.specs.Turns.{IsAt}
 use Rattle.crypto_model.specs.Counts.{capped}
 use Rattle.packet_flow.specs.Passage.{IsUnderway}
 use Rattle.packet_flow.proofs.Turning.{turns_left}

@@ -3,7 +3,7 @@ use Rattle.capture_io.specs.Capture.{Rec}
 use Rattle.crypto_op.specs.declared.spec.Card.{Card}
 use Rattle.crypto_op.specs.Op.{Entry}
 use Rattle.dev_core.specs.Calls.{Call, Ran}
-use Rattle.packet_flow.specs.Offers.{OnlyAsked}
+use Rattle.packet_flow.specs.Turns.{OnlyAsked}
 use Rattle.packet_flow.specs.Slots.{IsBetween}
 use Rattle.packet_flow.proofs.turn.drain.Given as goal
 

@@ -41,7 +41,7 @@ returns-in-Pass c =
     let packet = packet_of c.args.rec.packet in
     let is = told plan packet c.items.result.now _ _ c.items.ensures c.choose-chosen.ensures.choice c.choose-chosen.ensures.flow in
     let w : Written = record { rec = c.args.rec; fate = Passed } in
-    subst (λ (p : Plan). IsBegun p c.args.n (view c.args.rec) (Ready w)) c.self.view_is (passes plan c.args.n (view c.args.rec) w (is.0 ∙ c.in-Pass.is) refl)
+    subst (λ (p : Plan). IsBegun p c.args.n c.args.pos (view c.args.rec) (Ready w)) c.self.view_is (passes plan c.args.n c.args.pos (view c.args.rec) w (is.0 ∙ c.in-Pass.is) refl)
 
 pub returns-in-Use : goal.returns-in-Use
 returns-in-Use c =
@@ -49,6 +49,6 @@ returns-in-Use c =
     let packet = packet_of c.args.rec.packet in
     let is = told plan packet c.items.result.now _ _ c.items.ensures c.choose-chosen.ensures.choice c.choose-chosen.ensures.flow in
     let at = found plan c.self.inside.ways.items packet c.in-Use.session c.in-Use.skip c.self.invariant (is.0 ∙ c.in-Use.is) in
-    subst (λ (p : Plan). IfOk c.begun.result (IsBegun p c.args.n (view c.args.rec))) c.self.view_is
+    subst (λ (p : Plan). IfOk c.begun.result (IsBegun p c.args.n c.args.pos (view c.args.rec))) c.self.view_is
     (begun_is plan (view c.args.rec) at.0 _ c.index.result.now c.begun.result (record { choice = is.0 ∙ c.in-Use.is; flow = is.1; got = at.1.got })
     (at.1.ready c.index.result.now c.index.ensures) c.begun.ensures)

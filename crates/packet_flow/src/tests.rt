@@ -165,11 +165,12 @@ fn a_burst_is_offered_to_its_end_before_the_next_and_no_empty_one(
 
 #[test]
 fn operations_are_numbered_without_the_packets_that_pass(rt: HostRuntime) -> Result<(), Fail> {
-    let mut dev = keep(rt.alloc(), &[0, 1, 0, 0, 1, 1], 32)?;
+    let Keeper { kept, .. } = keep(rt.alloc(), &[0, 1, 0, 0, 1, 1], 32)?;
+    let mut kept = kept;
     for (pos, packet) in [(0, 1), (1, 4), (2, 5)] {
-        let op = dev.kept.pop().ok_or("no operation")?;
+        let op = kept.pop().ok_or("no operation")?;
         assert_eq!(rt; (op.spec().pos, op.cargo().packet), (pos, packet));
     }
-    assert_eq!(rt; dev.kept.len(), 0);
+    assert_eq!(rt; kept.len(), 0);
     Ok(())
 }

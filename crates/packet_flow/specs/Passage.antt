@@ -5,6 +5,7 @@ use Rattle.crypto_model.specs.Counts.{capped}
 use Rattle.crypto_op.specs.declared.spec.Card.{Card}
 use Rattle.crypto_op.specs.Op.{Entry, IsFresh, entry_of}
 use Rattle.dev_core.specs.declared.driver.LogEntry.{LogEntry}
+use Rattle.dev_core.specs.declared.stats.Stats.{Stats}
 use Rattle.dev_core.specs.Burst.{log_entry}
 use Rattle.capture_io.specs.Capture.{Rec, Rest, Records, first_place, view}
 use Rattle.capture_io.specs.Limits.{IsSmall}
@@ -31,6 +32,9 @@ pub record Before : Type 0 where
   pub log : Option (List LogEntry)
   pub size : ℕ
 
+abbrev pub before : Bool → (bytes base : List ℕ) → (log : Option (List LogEntry)) → (size : ℕ) → Before
+before big bytes base log size = record { big = big; bytes = bytes; base = base; log = log; size = size }
+
 -- what there is now outside: what is left of the capture, what is written, what the driver holds and counts, and the
 -- calls that it has answered
 pub record Outside : Type 0 where
@@ -40,6 +44,9 @@ pub record Outside : Type 0 where
   pub enqueued : ℕ
   pub log : Option (List LogEntry)
   pub past : List Call
+
+abbrev pub outside : (left written : List ℕ) → (held : List (Entry Card)) → Stats → (log : Option (List LogEntry)) → (past : List Call) → Outside
+outside left written held stats log past = record { left = left; written = written; held = held; enqueued = stats.enqueued; log = log; past = past }
 
 -- the driver counts these operations, and its log tells them, if it tells any
 pub record HasTaken (b : Before) (taken : List LogEntry) (enqueued : ℕ) (log : Option (List LogEntry)) : Type 0 where

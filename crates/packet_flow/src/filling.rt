@@ -61,12 +61,15 @@ fn advance<S: Source, K: Sink>(
     out: &mut K,
     passage: &mut Passage,
 ) -> Result<(), FlowEnd>
-    requires underway { (b : Before) × (o : Outside) × (b.big ≡ header.now.big) × (o.left ≡ S.left src.old) × (o.written ≡ K.written out.old) × IsUnderway plan.now b S.tells K.tells passage.old o }
+    requires underway { (b : Before) × (o : Outside) × (b.big ≡ header.now.big) × (o.left ≡ S.left src.old) × (o.written ≡ K.written out.old)
+        × IsUnderway plan.now b S.tells K.tells passage.old o }
     requires room { length passage.old.burst.ops < passage.old.burst.cap }
     requires some { (0 < length passage.old.waiting.items) ⊎ (passage.old.stop ≡ None) }
-    ensures underway { (b : Before) (o : Outside) → b.big ≡ header.now.big → o.left ≡ S.left src.old → o.written ≡ K.written out.old → IsUnderway plan.now b S.tells K.tells passage.old o
+    ensures underway { (b : Before) (o : Outside) → b.big ≡ header.now.big → o.left ≡ S.left src.old → o.written ≡ K.written out.old
+        → IsUnderway plan.now b S.tells K.tells passage.old o
         → OnOk result (IsUnderway plan.now b S.tells K.tells passage.new (record o { left = S.left src.new; written = K.written out.new })) }
-    ensures ends { (b : Before) (o : Outside) → b.big ≡ header.now.big → o.left ≡ S.left src.old → o.written ≡ K.written out.old → IsUnderway plan.now b S.tells K.tells passage.old o
+    ensures ends { (b : Before) (o : Outside) → b.big ≡ header.now.big → o.left ≡ S.left src.old → o.written ≡ K.written out.old
+        → IsUnderway plan.now b S.tells K.tells passage.old o
         → IfErr result (λ end. EndsAs plan.now b S.tells K.tells end passage.new.counts (record o { left = S.left src.new; written = K.written out.new })) }
     ensures smaller { OnOk result (left_to_begin passage.new < left_to_begin passage.old) }
     ensures read_later { S.faults src.old ≤ S.faults src.new }
@@ -117,10 +120,13 @@ pub(crate) fn fill<S: Source, K: Sink>(
     out: &mut K,
     passage: &mut Passage,
 ) -> Result<(), FlowEnd>
-    requires underway { (b : Before) × (o : Outside) × (b.big ≡ header.now.big) × (o.left ≡ S.left src.old) × (o.written ≡ K.written out.old) × IsUnderway plan.now b S.tells K.tells passage.old o }
-    ensures underway { (b : Before) (o : Outside) → b.big ≡ header.now.big → o.left ≡ S.left src.old → o.written ≡ K.written out.old → IsUnderway plan.now b S.tells K.tells passage.old o
+    requires underway { (b : Before) × (o : Outside) × (b.big ≡ header.now.big) × (o.left ≡ S.left src.old) × (o.written ≡ K.written out.old)
+        × IsUnderway plan.now b S.tells K.tells passage.old o }
+    ensures underway { (b : Before) (o : Outside) → b.big ≡ header.now.big → o.left ≡ S.left src.old → o.written ≡ K.written out.old
+        → IsUnderway plan.now b S.tells K.tells passage.old o
         → OnOk result (IsUnderway plan.now b S.tells K.tells passage.new (record o { left = S.left src.new; written = K.written out.new })) }
-    ensures ends { (b : Before) (o : Outside) → b.big ≡ header.now.big → o.left ≡ S.left src.old → o.written ≡ K.written out.old → IsUnderway plan.now b S.tells K.tells passage.old o
+    ensures ends { (b : Before) (o : Outside) → b.big ≡ header.now.big → o.left ≡ S.left src.old → o.written ≡ K.written out.old
+        → IsUnderway plan.now b S.tells K.tells passage.old o
         → IfErr result (λ end. EndsAs plan.now b S.tells K.tells end passage.new.counts (record o { left = S.left src.new; written = K.written out.new })) }
     ensures filled { OnOk result (IsFilled passage.old passage.new) }
     ensures full { OnOk result ((0 < length passage.new.burst.ops) ⊎ ((passage.new.waiting.items ≡ []) × (stop : ReadStop) × (passage.new.stop ≡ Some stop))) }

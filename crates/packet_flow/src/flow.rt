@@ -4,7 +4,7 @@ ghost use Rattle.crypto_model.specs.Counts.{capped, Rose};
 ghost use Rattle.crypto_op.specs.declared.spec.Card.{Card};
 ghost use Rattle.dev_core.specs.Stats.{no_stats};
 ghost use Rattle.packet_plan.specs.Asked.{sessions_of};
-ghost use Rattle.packet_flow.specs.Passage.{Before, EndsAs, IsUnderway, Outside};
+ghost use Rattle.packet_flow.specs.Passage.{Before, EndsAs, IsUnderway, before, outside};
 ghost use Rattle.packet_flow.specs.Turns.{IsAt, NeverIdle};
 ghost use Rattle.dev_core.specs.Calls.{Call, Ran};
 
@@ -68,11 +68,21 @@ fn step<S: Source, K: Sink, D: Driver<Card>>(
 ) -> Result<u64, FlowEnd>
     requires sessions { D.sessions dev.old ≡ sessions_of plan.now }
     requires works { NeverIdle D.admits D.held dev.old }
-    requires underway { (b : Before) × (past : List Call) × (b.big ≡ header.now.big) × IsAt past passage.old.burst.ops × IsUnderway plan.now b S.tells K.tells passage.old (record { left = S.left src.old; written = K.written out.old; held = D.held dev.old; enqueued = (D.stats dev.old).enqueued; log = D.log dev.old; past = past }) }
-    ensures underway { (b : Before) (past : List Call) (first : D) → b.big ≡ header.now.big → IsAt past passage.old.burst.ops → Ran D.does first past dev.old → IsUnderway plan.now b S.tells K.tells passage.old (record { left = S.left src.old; written = K.written out.old; held = D.held dev.old; enqueued = (D.stats dev.old).enqueued; log = D.log dev.old; past = past })
-        → OnOk result ((now : List Call) × IsAt now passage.new.burst.ops × Ran D.does first now dev.new × IsUnderway plan.now b S.tells K.tells passage.new (record { left = S.left src.new; written = K.written out.new; held = D.held dev.new; enqueued = (D.stats dev.new).enqueued; log = D.log dev.new; past = now })) }
-    ensures ends { (b : Before) (past : List Call) (first : D) → b.big ≡ header.now.big → IsAt past passage.old.burst.ops → Ran D.does first past dev.old → IsUnderway plan.now b S.tells K.tells passage.old (record { left = S.left src.old; written = K.written out.old; held = D.held dev.old; enqueued = (D.stats dev.old).enqueued; log = D.log dev.old; past = past })
-        → IfErr result (λ end. (now : List Call) × Ran D.does first now dev.new × EndsAs plan.now b S.tells K.tells end passage.new.counts (record { left = S.left src.new; written = K.written out.new; held = D.held dev.new; enqueued = (D.stats dev.new).enqueued; log = D.log dev.new; past = now })) }
+    requires underway { (b : Before) × (past : List Call) × (b.big ≡ header.now.big) × IsAt past passage.old.burst.ops
+        × IsUnderway plan.now b S.tells K.tells passage.old
+        (outside (S.left src.old) (K.written out.old) (D.held dev.old) (D.stats dev.old) (D.log dev.old) past) }
+    ensures underway { (b : Before) (past : List Call) (first : D) → b.big ≡ header.now.big → IsAt past passage.old.burst.ops
+        → Ran D.does first past dev.old → IsUnderway plan.now b S.tells K.tells passage.old
+        (outside (S.left src.old) (K.written out.old) (D.held dev.old) (D.stats dev.old) (D.log dev.old) past)
+        → OnOk result ((now : List Call) × IsAt now passage.new.burst.ops × Ran D.does first now dev.new
+        × IsUnderway plan.now b S.tells K.tells passage.new
+        (outside (S.left src.new) (K.written out.new) (D.held dev.new) (D.stats dev.new) (D.log dev.new) now)) }
+    ensures ends { (b : Before) (past : List Call) (first : D) → b.big ≡ header.now.big → IsAt past passage.old.burst.ops
+        → Ran D.does first past dev.old → IsUnderway plan.now b S.tells K.tells passage.old
+        (outside (S.left src.old) (K.written out.old) (D.held dev.old) (D.stats dev.old) (D.log dev.old) past)
+        → IfErr result (λ end. (now : List Call) × Ran D.does first now dev.new
+        × EndsAs plan.now b S.tells K.tells end passage.new.counts
+        (outside (S.left src.new) (K.written out.new) (D.held dev.new) (D.stats dev.new) (D.log dev.new) now)) }
     ensures moved { IfOk result (λ n. n + length (D.held dev.new) + 2 * (D.stats dev.old).enqueued ≡ length (D.held dev.old) + 2 * (D.stats dev.new).enqueued) }
     ensures cause { IfOk result (λ n. n ≡ 0 → Rose (D.stalls dev.old) (D.stalls dev.new)) }
     ensures ended { S.tells → result ≡ Err (FlowEnd.Stopped ReadStop.End) → S.left src.new ≡ [] }
@@ -139,8 +149,9 @@ pub fn transfer<S: Source, K: Sink, D: Driver<Card>>(
     requires log { D.log dev.old ≡ option_map (λ l. []) (D.log dev.old) }
     requires works { (d : D) → D.follows dev.old d → NeverIdle D.admits D.held d }
     // The calls that it made, and nothing else, lead from the driver before to the driver now, and offer the operations so.
-    ensures ends { (now : List Call) × Ran D.does dev.old now dev.new × EndsAs plan.now (record { big = header.now.big; bytes = S.left src.old; base = K.written out.old; log = D.log dev.old; size = size }) S.tells K.tells result.end result.counts
-        (record { left = S.left src.new; written = K.written out.new; held = D.held dev.new; enqueued = (D.stats dev.new).enqueued; log = D.log dev.new; past = now }) }
+    ensures ends { (now : List Call) × Ran D.does dev.old now dev.new
+        × EndsAs plan.now (before header.now.big (S.left src.old) (K.written out.old) (D.log dev.old) size) S.tells K.tells result.end result.counts
+        (outside (S.left src.new) (K.written out.new) (D.held dev.new) (D.stats dev.new) (D.log dev.new) now) }
     ensures ended { S.tells → result.end ≡ FlowEnd.Stopped ReadStop.End → S.left src.new ≡ [] }
     ensures stalled { result.end ≡ FlowEnd.Stalled → capped (D.stalls dev.old + 4096 * (1 + (D.stats dev.new).enqueued)) ≤ D.stalls dev.new }
     ensures stalls { D.stalls dev.old ≤ D.stalls dev.new }

@@ -12,6 +12,20 @@
 //! 0  1  2        3 open  4 ready  5 open    6          7
 //! ```
 //!
+//! What is done by what:
+//!
+//! ```text
+//! transfer
+//!     step                  until the capture is at its end
+//!         fill              where the burst is empty
+//!             advance       record by record: one that waits is begun, or a window is read
+//!                 read_window, begin, write_ready
+//!         turn
+//!             offer         the burst, once
+//!             drain         what comes back, into its slots
+//!         write_ready
+//! ```
+//!
 //! Contracts speak of these words of `specs`:
 //!
 //! - `IsBetween` of `Slots`: the slots stand for the records that are begun and not written, and the open ones wait
@@ -19,7 +33,9 @@
 //! - `IsUnderway` of `Passage`: all that is known between two turns;
 //! - `Flowed` of `Flowed`, and `EndsAs` of `Passage`: what was written, counted and taken at the end. The written
 //!   records are the first of `answered_from`, in which each packet is answered by itself, and the operations that the
-//!   driver took are the first of `entries_from`.
+//!   driver took are the first of `entries_from`, which are numbered from 0: a packet that passes or is short takes no
+//!   number;
+//! - `Flows` of `dev_core`: in which bursts the driver was offered them.
 #![tactic(auto)]
 
 mod counts;

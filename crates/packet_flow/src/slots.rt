@@ -22,7 +22,8 @@ pub(crate) enum Slot {
 fn settle(plan: &ReadyPlan, slots: &mut VecDeque<Slot>, first: u32, op: Op<Card>)
     requires done { IsDone (sessions_of plan.now) op }
     requires between { (used : List Rec) × (rest : List (Entry Card)) × IsBetween plan.now used first slots.old.items (entry_of op ∷ rest) }
-    ensures { (used : List Rec) (rest : List (Entry Card)) → IsBetween plan.now used first slots.old.items (entry_of op ∷ rest) → IsBetween plan.now used first slots.new.items rest }
+    ensures { (used : List Rec) (rest : List (Entry Card)) → IsBetween plan.now used first slots.old.items (entry_of op ∷ rest)
+        → IsBetween plan.now used first slots.new.items rest }
 {
     let place = (op.cargo().packet - first) as usize;
     let written = match &slots[place] {

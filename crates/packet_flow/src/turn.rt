@@ -32,7 +32,8 @@ fn offer<D: Driver<Card>>(dev: &mut D, burst: &mut OpBurst<Card>) -> usize
     ensures sessions { D.sessions dev.new ≡ D.sessions dev.old }
     ensures enqueued { (D.stats dev.new).enqueued ≡ capped ((D.stats dev.old).enqueued + result) }
     ensures log { D.log dev.new ≡ option_map (λ l. l ++ front_log result burst.old) (D.log dev.old) }
-    ensures calls { (first : D) (past : List Call) → Ran D.does first past dev.old → Ran D.does first (with_offer (map log_entry burst.old.ops) result past) dev.new }
+    ensures calls { (first : D) (past : List Call) → Ran D.does first past dev.old
+        → Ran D.does first (with_offer (map log_entry burst.old.ops) result past) dev.new }
     ensures follows { D.follows dev.old dev.new }
 {
     if burst.len() == 0 {
@@ -63,7 +64,8 @@ fn drain<D: Driver<Card>>(
     ensures sessions { D.sessions dev.new ≡ D.sessions dev.old }
     ensures enqueued { (D.stats dev.new).enqueued ≡ (D.stats dev.old).enqueued }
     ensures log { D.log dev.new ≡ D.log dev.old }
-    ensures calls { (first : D) (past : List Call) → Ran D.does first past dev.old → (now : List Call) × Ran D.does first now dev.new × IsDrained now × OnlyAsked past now }
+    ensures calls { (first : D) (past : List Call) → Ran D.does first past dev.old
+        → (now : List Call) × Ran D.does first now dev.new × IsDrained now × OnlyAsked past now }
     ensures follows { D.follows dev.old dev.new }
 {
     let size = back.room();
@@ -107,7 +109,8 @@ pub(crate) fn turn<D: Driver<Card>>(
     ensures sessions { D.sessions dev.new ≡ D.sessions dev.old }
     ensures enqueued { (D.stats dev.new).enqueued ≡ capped ((D.stats dev.old).enqueued + result.0) }
     ensures log { D.log dev.new ≡ option_map (λ l. l ++ front_log result.0 burst.old) (D.log dev.old) }
-    ensures calls { (first : D) (past : List Call) → Ran D.does first past dev.old → (now : List Call) × Ran D.does first now dev.new × IsDrained now × OnlyAsked (with_offer (map log_entry burst.old.ops) result.0 past) now }
+    ensures calls { (first : D) (past : List Call) → Ran D.does first past dev.old
+        → (now : List Call) × Ran D.does first now dev.new × IsDrained now × OnlyAsked (with_offer (map log_entry burst.old.ops) result.0 past) now }
     ensures follows { D.follows dev.old dev.new }
 {
     let accepted = offer(dev, burst);

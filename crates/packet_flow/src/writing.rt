@@ -24,17 +24,18 @@ pub(crate) fn write_ready<K: Sink>(
     first: &mut u32,
     counts: &mut Counts,
 ) -> Result<(), WriteFault>
-    requires { (plan : Plan) × (used : List Rec) × (entries : List (Entry Card)) × IsBetween plan used first.old slots.old.items entries × (length used < 2 ^ 32)
-        × (counts.old ≡ counts_of (take first.old (answered_from plan 0 used))) }
+    requires { (plan : Plan) × (used : List Rec) × (entries : List (Entry Card)) × IsBetween plan used first.old slots.old.items entries
+        × (length used < 2 ^ 32) × (counts.old ≡ counts_of (take first.old (answered_from plan 0 used))) }
     ensures between { (plan : Plan) (used : List Rec) (entries : List (Entry Card)) → IsBetween plan used first.old slots.old.items entries
         → OnOk result (IsBetween plan used first.new slots.new.items entries) }
     ensures counts { (plan : Plan) (used : List Rec) (entries : List (Entry Card)) → IsBetween plan used first.old slots.old.items entries
-        → counts.old ≡ counts_of (take first.old (answered_from plan 0 used)) → (first.new ≤ length used) × (counts.new ≡ counts_of (take first.new (answered_from plan 0 used))) }
-    ensures written { K.tells → (plan : Plan) (used : List Rec) (entries : List (Entry Card)) → IsBetween plan used first.old slots.old.items entries → (base : List ℕ)
-        → K.written out.old ≡ base ++ flat_map (answer_bytes header.now.big) (take first.old (answered_from plan 0 used))
+        → counts.old ≡ counts_of (take first.old (answered_from plan 0 used))
+        → (first.new ≤ length used) × (counts.new ≡ counts_of (take first.new (answered_from plan 0 used))) }
+    ensures written { K.tells → (plan : Plan) (used : List Rec) (entries : List (Entry Card)) → IsBetween plan used first.old slots.old.items entries
+        → (base : List ℕ) → K.written out.old ≡ base ++ flat_map (answer_bytes header.now.big) (take first.old (answered_from plan 0 used))
         → OnOk result (K.written out.new ≡ base ++ flat_map (answer_bytes header.now.big) (take first.new (answered_from plan 0 used))) }
-    ensures fault { K.tells → (plan : Plan) (used : List Rec) (entries : List (Entry Card)) → IsBetween plan used first.old slots.old.items entries → (base : List ℕ)
-        → K.written out.old ≡ base ++ flat_map (answer_bytes header.now.big) (take first.old (answered_from plan 0 used))
+    ensures fault { K.tells → (plan : Plan) (used : List Rec) (entries : List (Entry Card)) → IsBetween plan used first.old slots.old.items entries
+        → (base : List ℕ) → K.written out.old ≡ base ++ flat_map (answer_bytes header.now.big) (take first.old (answered_from plan 0 used))
         → OnErr result (CutAt header.now.big (answered_from plan 0 used) first.new base (K.written out.new)) }
     ensures waits { OnOk result (WaitsAtFront slots.new.items) }
     ensures later { K.faults out.old ≤ K.faults out.new }

@@ -12,7 +12,7 @@ use Rattle.capture_io.specs.declared.header.ReadStop.{ReadStop}
 use Rattle.packet_plan.specs.Answered.{answered_from}
 use Rattle.packet_flow.specs.Entries.{entries_from}
 use Rattle.packet_flow.specs.declared.flow.FlowEnd.TheVariants as flow_end
-use Rattle.packet_flow.specs.Passage.{Outside}
+use Rattle.packet_flow.specs.Passage.{outside}
 use Rattle.packet_flow.proofs.Ends.{begun_first, ends_cut, ends_whole, flows_behind}
 use Rattle.packet_flow.proofs.Turning.{enqueued_few, few_taken, few_held, queued_on, device_on, few_on, moved_by, some_moves, all_read, no_items, some_items, no_fault, written_by, cut_by, if_err_at, not_err_at, at_rest, offers_on, took_on}
 use Rattle.packet_flow.proofs.flow.step.Goals.{else-len-eq0-via-then-len-eq0+else-is_empty, else-len-eq0-via-else-len-eq0}
@@ -34,7 +34,7 @@ returns-then-is_empty-clause-ends g c b past first big at ran u0 =
       past,
       ran,
       ends_whole c.args.plan.now b g.S.Source.tells g.K.Sink.tells p
-          (record { left = g.S.Source.left c.fill.new.src; written = g.K.Sink.written c.fill.new.out; held = g.D.Driver.held c.args.dev.now; enqueued = (g.D.Driver.stats c.args.dev.now).enqueued; log = g.D.Driver.log c.args.dev.now; past = past })
+          (outside (g.S.Source.left c.fill.new.src) (g.K.Sink.written c.fill.new.out) (g.D.Driver.held c.args.dev.now) (g.D.Driver.stats c.args.dev.now) (g.D.Driver.log c.args.dev.now) past)
           c.in-Some.stop u c.in-Some.is (all_read (length p.burst.ops) p.waiting.items p.stop c.in_ok-fill.ensures.full none)
           (nil_from_length p.burst.ops none) (no_items p.slots.len p.slots.items c.is_empty.result p.slots.ok.0 c.is_empty.ensures c.if-is_empty.true),
     )
@@ -89,12 +89,12 @@ returns-in_err-write_ready-clause-ends g c b past first big at ran u0 =
     let between = c.turn-accepted.ensures.between u.used u.between in
     let counts = c.write_ready.ensures.counts plan u.used _ between u.counts in
     let now = c.turn-accepted.ensures.calls first past ran in
-    let o0 : Outside = record { left = g.S.Source.left c.fill.new.src; written = g.K.Sink.written c.fill.new.out; held = g.D.Driver.held c.args.dev.now; enqueued = (g.D.Driver.stats c.args.dev.now).enqueued; log = g.D.Driver.log c.args.dev.now; past = past } in
+    let o0 = outside (g.S.Source.left c.fill.new.src) (g.K.Sink.written c.fill.new.out) (g.D.Driver.held c.args.dev.now) (g.D.Driver.stats c.args.dev.now) (g.D.Driver.log c.args.dev.now) past in
     if_err_at c.from_residual-in_err-write_ready.result flow_end.WriteFault _ c.from_residual-in_err-write_ready.ensures.1 (
       now.0,
       now.1,
       ends_cut plan b g.S.Source.tells g.K.Sink.tells
-          (record { left = g.S.Source.left c.fill.new.src; written = g.K.Sink.written c.write_ready.new.out; held = g.D.Driver.held c.turn-accepted.new.dev; enqueued = (g.D.Driver.stats c.turn-accepted.new.dev).enqueued; log = g.D.Driver.log c.turn-accepted.new.dev; past = now.0 })
+          (outside (g.S.Source.left c.fill.new.src) (g.K.Sink.written c.write_ready.new.out) (g.D.Driver.held c.turn-accepted.new.dev) (g.D.Driver.stats c.turn-accepted.new.dev) (g.D.Driver.log c.turn-accepted.new.dev) now.0)
           c.write_ready.new.counts u.used (u.taken ++ front_log n p.burst) (map log_entry c.turn-accepted.new.burst.ops) c.write_ready.new.first
           (λ told. begun_first b.big b.bytes u.used (map view p.waiting.items) p.place (g.S.Source.left c.fill.new.src) p.stop (u.reads told))
           (queued_on u.taken (entries_from plan 0 u.used) n p.burst c.turn-accepted.new.burst c.turn-accepted.ensures.rest u.queued)
@@ -120,7 +120,7 @@ returns-clause-underway g c b past first big at ran u0 =
     let between = c.turn-accepted.ensures.between u.used u.between in
     let counts = c.write_ready.ensures.counts plan u.used _ between u.counts in
     let now = c.turn-accepted.ensures.calls first past ran in
-    let o0 : Outside = record { left = g.S.Source.left c.fill.new.src; written = g.K.Sink.written c.fill.new.out; held = g.D.Driver.held c.args.dev.now; enqueued = (g.D.Driver.stats c.args.dev.now).enqueued; log = g.D.Driver.log c.args.dev.now; past = past } in
+    let o0 = outside (g.S.Source.left c.fill.new.src) (g.K.Sink.written c.fill.new.out) (g.D.Driver.held c.args.dev.now) (g.D.Driver.stats c.args.dev.now) (g.D.Driver.log c.args.dev.now) past in
     let filled = c.in_ok-fill.ensures.filled in (
       now.0,
       at_rest plan b g.S.Source.tells g.K.Sink.tells c.args.passage.now p o0 u at filled n c.turn-accepted.new.burst now.0 c.turn-accepted.ensures.rest now.2 now.3,

@@ -5,7 +5,7 @@ use Rattle.dev_core.specs.Burst.{log_entry}
 use Rattle.std.proofs.Common.{Err, [], map, length, refl, ap, ◌∙◌, arith}
 use Rattle.dev_core.specs.declared.stats.Stats.{Stats}
 use Rattle.packet_flow.specs.declared.flow.FlowEnd.TheVariants as flow_end
-use Rattle.packet_flow.specs.Passage.{Before}
+use Rattle.packet_flow.specs.Passage.{before, outside}
 use Rattle.packet_flow.proofs.Ends.{ends_early}
 use Rattle.packet_flow.proofs.Turning.{counted_few, ends_unbegun, enqueued_few, fewer_left, new_underway, stalled_on}
 use Rattle.packet_flow.proofs.flow.transfer.Goals as goal
@@ -14,9 +14,9 @@ pub returns-in_default-clause-ends : goal.returns-in_default-clause-ends
 returns-in_default-clause-ends g c = (
   [],
   refl,
-  ends_unbegun c.args.plan.now (record { big = c.args.header.now.big; bytes = g.S.Source.left c.args.src.now; base = g.K.Sink.written c.args.out.now; log = g.D.Driver.log c.args.dev.now; size = c.args.size })
+  ends_unbegun c.args.plan.now (before c.args.header.now.big (g.S.Source.left c.args.src.now) (g.K.Sink.written c.args.out.now) (g.D.Driver.log c.args.dev.now) c.args.size)
       g.S.Source.tells g.K.Sink.tells
-      (record { left = g.S.Source.left c.args.src.now; written = g.K.Sink.written c.args.out.now; held = g.D.Driver.held c.args.dev.now; enqueued = (g.D.Driver.stats c.args.dev.now).enqueued; log = g.D.Driver.log c.args.dev.now; past = [] })
+      (outside (g.S.Source.left c.args.src.now) (g.K.Sink.written c.args.out.now) (g.D.Driver.held c.args.dev.now) (g.D.Driver.stats c.args.dev.now) (g.D.Driver.log c.args.dev.now) [])
       c.new-in_default.result refl (record { enqueued_is = omega (arith, ap (λ (s : Stats). s.enqueued) c.requires.stats); log_is = c.requires.log }) refl c.new-in_default.ensures,
 )
 
@@ -50,7 +50,7 @@ step-requires-clause-underway g c = let u = c.loop-moved.invariant.underway in (
 pub returns-in-Err-clause-ends : goal.returns-in-Err-clause-ends
 returns-in-Err-clause-ends g c =
     let u = c.loop-moved.invariant.underway in
-    c.in-Err.ensures.ends (record { big = c.args.header.now.big; bytes = g.S.Source.left c.args.src.now; base = g.K.Sink.written c.args.out.now; log = g.D.Driver.log c.args.dev.now; size = c.args.size })
+    c.in-Err.ensures.ends (before c.args.header.now.big (g.S.Source.left c.args.src.now) (g.K.Sink.written c.args.out.now) (g.D.Driver.log c.args.dev.now) c.args.size)
     u.0 c.args.dev.now refl u.1 u.2 u.3
 
 pub returns-in-Err-clause-stalls : goal.returns-in-Err-clause-stalls
@@ -91,13 +91,13 @@ overflow_mul-stats g c =
 
 pub returns-then-stalled-stats-clause-ends : goal.returns-then-stalled-stats-clause-ends
 returns-then-stalled-stats-clause-ends g c =
-    let b : Before = record { big = c.args.header.now.big; bytes = g.S.Source.left c.args.src.now; base = g.K.Sink.written c.args.out.now; log = g.D.Driver.log c.args.dev.now; size = c.args.size } in
+    let b = before c.args.header.now.big (g.S.Source.left c.args.src.now) (g.K.Sink.written c.args.out.now) (g.D.Driver.log c.args.dev.now) c.args.size in
     let u = c.loop-moved.invariant.underway in
     let now = c.in-Ok-step.ensures.underway b u.0 c.args.dev.now refl u.1 u.2 u.3 in (
       now.0,
       now.2,
       ends_early c.args.plan.now b g.S.Source.tells g.K.Sink.tells c.step.new.passage
-          (record { left = g.S.Source.left c.step.new.src; written = g.K.Sink.written c.step.new.out; held = g.D.Driver.held c.step.new.dev; enqueued = (g.D.Driver.stats c.step.new.dev).enqueued; log = g.D.Driver.log c.step.new.dev; past = now.0 })
+          (outside (g.S.Source.left c.step.new.src) (g.K.Sink.written c.step.new.out) (g.D.Driver.held c.step.new.dev) (g.D.Driver.stats c.step.new.dev) (g.D.Driver.log c.step.new.dev) now.0)
           flow_end.Stalled c.step.new.passage.counts (λ w. w) (λ is. cc) now.3 refl,
     )
 

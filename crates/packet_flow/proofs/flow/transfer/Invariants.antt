@@ -2,15 +2,15 @@ use Rattle.std.proofs.Common.{◌≡◌, ◌+◌, ◌*◌, ◌<◌, ◌≤◌, L
 use Rattle.dev_core.specs.Calls.{Call, Ran}
 use Rattle.packet_flow.specs.Turns.{IsAt}
 use Rattle.crypto_model.specs.Counts.{capped}
-use Rattle.packet_flow.specs.Passage.{IsUnderway}
+use Rattle.packet_flow.specs.Passage.{IsUnderway, before, outside}
 use Rattle.packet_flow.proofs.Turning.{turns_left}
 use Rattle.packet_flow.proofs.flow.transfer.Given as goal
 
 abbrev pub invariant-loop-moved : goal.invariant-loop-moved
 invariant-loop-moved g l = record {
   underway : (past : List Call) × IsAt past l.passage.burst.ops × Ran g.D.Driver.does l.fn.dev past l.dev
-      × IsUnderway l.plan (record { big = l.header.big; bytes = g.S.Source.left l.fn.src; base = g.K.Sink.written l.fn.out; log = g.D.Driver.log l.fn.dev; size = l.size }) g.S.Source.tells g.K.Sink.tells l.passage
-      (record { left = g.S.Source.left l.src; written = g.K.Sink.written l.out; held = g.D.Driver.held l.dev; enqueued = (g.D.Driver.stats l.dev).enqueued; log = g.D.Driver.log l.dev; past = past });
+      × IsUnderway l.plan (before l.header.big (g.S.Source.left l.fn.src) (g.K.Sink.written l.fn.out) (g.D.Driver.log l.fn.dev) l.size) g.S.Source.tells g.K.Sink.tells l.passage
+      (outside (g.S.Source.left l.src) (g.K.Sink.written l.out) (g.D.Driver.held l.dev) (g.D.Driver.stats l.dev) (g.D.Driver.log l.dev) past);
   sessions : g.D.Driver.sessions l.dev ≡ g.D.Driver.sessions l.fn.dev;
   follows : g.D.Driver.follows l.fn.dev l.dev;
   later : g.D.Driver.stalls l.fn.dev ≤ g.D.Driver.stalls l.dev;

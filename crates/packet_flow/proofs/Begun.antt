@@ -31,7 +31,7 @@ use Rattle.packet_flow.specs.Flowed.{CutAt, answer_bytes}
 use Rattle.packet_flow.specs.Passage.{Before, Outside, EndsAs, IsEarly, IsUnderway}
 use Rattle.packet_flow.specs.Reads.{GoesOn, HasRead, IsWholeStop}
 use Rattle.packet_flow.specs.Slots.{IsBetween, IsFor, SlotSays, SlotsSay, WaitsAtFront, open_numbers}
-use Rattle.packet_flow.proofs.Numbers.{entries_behind, entries_behind-one, entries_from-append, entries_of-none, entries_of-one, length-entries_from}
+use Rattle.packet_flow.proofs.Numbers.{entries_behind-one, entries_from-append, entries_of-none, entries_of-one, length-entries_from}
 use Rattle.packet_flow.proofs.Bags.{count-append}
 use Rattle.dev_core.specs.Offers.{Flows}
 use Rattle.packet_flow.proofs.Ends.{begun_first, ends_cut, ends_early, first_answers, flows_any}

@@ -1,8 +1,7 @@
 -- One call more.
-use Rattle.std.proofs.Common.{◌≡◌, ◌<◌, ℕ, List, ◌∷◌, refl}
-use Rattle.dev_core.specs.declared.driver.LogEntry.{LogEntry}
+use Rattle.std.proofs.Common.{◌<◌, ℕ, List, ◌∷◌, refl}
 use Rattle.dev_core.specs.Calls.{Call, Asks, Ran}
-use Rattle.dev_core.specs.Offers.{Flows, IsDrained, rest_of_burst, taken_by}
+use Rattle.dev_core.specs.Offers.{IsDrained}
 use Rattle.packet_flow.specs.Turns.{OnlyAsked}
 
 pub none_more : (past : List Call) → OnlyAsked past past

@@ -88,13 +88,7 @@ impl ReadyPlan {
 
     /// Begins record `n`. Where the plan chooses a session and the packet is long enough, this makes an
     /// operation, which gets the number `pos`. The record is dropped where memory is wanting.
-    pub fn begin(
-        &self,
-        alloc: Global,
-        n: u32,
-        pos: u64,
-        rec: Record,
-    ) -> Result<Work, OutOfMemory>
+    pub fn begin(&self, alloc: Global, n: u32, pos: u64, rec: Record) -> Result<Work, OutOfMemory>
         requires small { IsSmall rec }
         ensures { IfOk result (IsBegun self.now n pos (view rec)) }
     {

@@ -220,6 +220,7 @@ fn quick(
 
 mod crypt;
 mod devices;
+mod order;
 
 #[test]
 fn the_published_packet_is_encrypted(rt: HostRuntime) -> Result<(), Fail> {

@@ -1,0 +1,6 @@
+pub mod Slots
+pub mod Numbers
+pub mod Dealt
+pub mod Lookup
+pub mod PendingMore
+pub mod Settling

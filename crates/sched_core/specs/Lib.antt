@@ -1,0 +1,5 @@
+pub mod Mode
+pub mod Stopped
+pub mod Ring
+pub mod Pending
+pub mod Logged

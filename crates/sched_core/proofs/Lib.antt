@@ -4,3 +4,5 @@ pub mod Dealt
 pub mod Lookup
 pub mod PendingMore
 pub mod Settling
+pub mod Digits
+pub mod Fields

@@ -71,7 +71,7 @@ fresh-number_ops n zero ops f = f
 fresh-number_ops n (suc k) [] f = f
 fresh-number_ops n (suc k) (op ∷ ops) f =
     All-cons IsFresh (moved_to (n % 2 ^ 64) op) (take k (number_ops (n + 1) k ops)) (fresh_moved (n % 2 ^ 64) op (All-head IsFresh op (take k ops) f))
-      (fresh-number_ops (n + 1) k ops (All-tail IsFresh op (take k ops) f))
+    (fresh-number_ops (n + 1) k ops (All-tail IsFresh op (take k ops) f))
 
 -- two lists with one more element each
 pub same_front : {X : Type 0} (xs ys : List X) (x y : X) → xs ++ x ∷ [] ≡ ys ++ y ∷ [] → (xs ≡ ys) × (x ≡ y)

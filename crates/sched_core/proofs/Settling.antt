@@ -62,8 +62,8 @@ pending-settled a (Open saved ∷ slots) zero op rest fs p at o l h =
     let test : (op.spec.pos == n) ≡ true = ap (λ b. b == n) is ∙ eqb_refl n in
     let f = only (λ x. x.pos == n) fs e (h n (inl refl)) (is_in-permutation e (rest ++ e ∷ []) fs p (is_in-right e rest (e ∷ []) (inl refl))) test in
     let tail = pending-same (a + 1) slots rest (e ∷ []) fs p (λ m j.
-      let d : op.spec.pos ≢ m = λ q. tail_apart a m slots (omega arith) j (sym is ∙ q) in
-      (count_without m rest fs e p d ∙ h m (inr j), h m (inr j))) in
+    let d : op.spec.pos ≢ m = λ q. tail_apart a m slots (omega arith) j (sym is ∙ q) in
+    (count_without m rest fs e p d ∙ h m (inr j), h m (inr j))) in
     ap (λ l. entry_of (moved_to saved op) ∷ l) (sym tail) ∙ sym (ap (λ l. map (with_pos saved) l ++ pending (a + 1) slots fs) f)
 pending-settled a (Open saved ∷ slots) (suc i) op rest fs p at o l h =
     let n = a % 2 ^ 64 in
@@ -107,8 +107,9 @@ holds-settled r i op rest fs p at o h n =
 pub listed : (n : ℕ) (xs : List ℕ) → 1 ≤ times n xs → IsIn n xs
 listed n [] h = absurd (omega arith)
 listed n (x ∷ xs) h = elim (eqb_tells x n) [
-    inl t ↦ inl t.1
-  | inr f ↦ inr (listed n xs (let c = count-cons (λ y. y == n) x xs in let o = not_one x n f.1 in omega (arith, c, o, h))) ]
+  | inl t ↦ inl t.1
+  | inr f ↦ inr (listed n xs (let c = count-cons (λ y. y == n) x xs in let o = not_one x n f.1 in omega (arith, c, o, h)))
+]
 
 pub length-settled_at : {C : Type 0} (slots : List (Slot C)) (i : ℕ) (op : Op C) → length (settled_at slots i op) ≡ length slots
 length-settled_at [] i op = refl

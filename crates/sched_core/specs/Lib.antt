@@ -3,3 +3,4 @@ pub mod Stopped
 pub mod Ring
 pub mod Pending
 pub mod Logged
+pub mod Text

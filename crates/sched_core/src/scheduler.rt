@@ -2,6 +2,7 @@
 ghost use Rattle.std.specs.Prelude.{◌≡◌, ◌≢◌, ◌↔◌, ◌+◌, ◌<◌, ◌≤◌, IsTrue, length, slice_index_or, vec_len, IsErr, IsErrOf, IfOk, OnOk, OnErr};
 ghost use Rattle.std.specs.Arc.{arc_value};
 ghost use Rattle.sched_core.specs.Mode.{most_workers};
+ghost use Rattle.sched_core.specs.Stopped.{is_threshold};
 ghost use Rattle.sched_core.specs.declared.scheduler.AttachRefused.TheVariants.{TooManyWorkers, NoDevice, SessionsDiffer};
 
 use crate::Mode;
@@ -12,6 +13,7 @@ use sym_session::{SessionTable, same};
 use thiserror::Error;
 
 const FIRST_THRESHOLD: u32 = 128;
+
 const MAX_THRESHOLD: u32 = 262_144;
 
 /// Why no device was attached.
@@ -29,6 +31,13 @@ pub enum AttachRefused {
 #[derive(Clone, Copy, Debug, PartialEq, Eq, Error)]
 #[error("the threshold isn't a power of two from 1 to 262,144")]
 pub struct BadThreshold;
+
+/// Whether a threshold is a power of two from 1 to 262,144.
+pub(crate) fn allowed_threshold(n: u32) -> bool
+    ensures { result ≡ is_threshold n }
+{
+    n.is_power_of_two() && n <= MAX_THRESHOLD
+}
 
 /// What a stopped scheduler is made of. The first `workers` devices are attached.
 #[derive(Drop)]
@@ -60,7 +69,7 @@ impl<D> Model for Scheduler<D> {
 }
 
 impl<D> Scheduler<D> {
-    ghost use Rattle.sched_core.specs.Stopped.{AreAlike, made_of, is_threshold};
+    ghost use Rattle.sched_core.specs.Stopped.{AreAlike, made_of};
 
     /// None of the devices is attached, and the threshold is 128.
     pub fn new(
@@ -115,7 +124,7 @@ impl<D> Scheduler<D> {
         ensures refused { OnErr result (self.new ≡ self.old) }
         ensures set { OnOk result (self.new ≡ record self.old { threshold = n }) }
     {
-        if !n.is_power_of_two() || MAX_THRESHOLD < n {
+        if !allowed_threshold(n) {
             return Err(BadThreshold);
         }
         self.parts.threshold = n;

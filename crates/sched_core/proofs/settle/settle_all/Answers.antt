@@ -21,12 +21,15 @@ loop-i-preserved g c =
       sound = λ held sound. rw c.settle.ensures (settle_step r held c.loop-i.burst.ops op rest c.in-Some.ensures.ops (now.sound held sound)).sound;
       pending = λ held sound. rw c.settle.ensures ((settle_step r held c.loop-i.burst.ops op rest c.in-Some.ensures.ops (now.sound held sound)).pending ∙ now.pending held sound);
       done = λ sessions slots ops.
-        let d = now.done sessions slots ops in
-        let first = done_first sessions c.loop-i.burst.ops op rest c.in-Some.ensures.ops d.1 in
-        (rw c.settle.ensures (done_settled sessions r.slots at op d.0 first.0), first.1);
+          let d = now.done sessions slots ops in
+          let first = done_first sessions c.loop-i.burst.ops op rest c.in-Some.ensures.ops d.1 in
+          (rw c.settle.ensures (done_settled sessions r.slots at op d.0 first.0), first.1);
       left = omega (arith, ap length c.in-Some.ensures.ops, now.left);
-      ring = (ap (λ (s : Ring _). s.cap) c.settle.ensures ∙ now.ring.0, ap (λ (s : Ring _). s.first) c.settle.ensures ∙ now.ring.1,
-        ap (λ (s : Ring _). length s.slots) c.settle.ensures ∙ (length-settled_at r.slots at op ∙ now.ring.2));
+      ring = (
+        ap (λ (s : Ring _). s.cap) c.settle.ensures ∙ now.ring.0,
+        ap (λ (s : Ring _). s.first) c.settle.ensures ∙ now.ring.1,
+        ap (λ (s : Ring _). length s.slots) c.settle.ensures ∙ (length-settled_at r.slots at op ∙ now.ring.2),
+      );
       cap = c.in-Some.ensures.cap ∙ now.cap;
     }
 

@@ -19,7 +19,7 @@ enqueue_burst-n-requires g c =
 pub returns-clause-rest : goal.returns-clause-rest
 returns-clause-rest g c =
     rest_is c.args.ring.now c.of-before.result.value c.args.burst.now c.number_front.new.burst c.enqueue_burst-n.new.burst c.restore_front.new.burst c.of-was.result.value
-      c.enqueue_burst-n.result c.min-offered.result c.of-was.ensures c.of-before.ensures c.number_front.ensures.burst c.enqueue_burst-n.ensures.rest c.restore_front.ensures.burst
+    c.enqueue_burst-n.result c.min-offered.result c.of-was.ensures c.of-before.ensures c.number_front.ensures.burst c.enqueue_burst-n.ensures.rest c.restore_front.ensures.burst
 
 pub returns-clause-held : goal.returns-clause-held
 returns-clause-held g c =

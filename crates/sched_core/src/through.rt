@@ -5,6 +5,7 @@ ghost use Rattle.std.specs.Option.{ForSome};
 ghost use Rattle.crypto_op.specs.Op.{IsFresh};
 ghost use Rattle.dev_core.specs.Burst.{offered, lens, rest_of, front, front_log};
 ghost use Rattle.sched_core.specs.Logged.{renumbered};
+ghost use Rattle.sched_core.specs.Ring.{number};
 ghost use Rattle.crypto_model.specs.Counts.{Rose, capped};
 ghost use Rattle.sched_core.specs.Pending.{opened, number_ops, numbered};
 
@@ -65,7 +66,7 @@ pub fn enqueue_through<C: Drop, D: Driver<C>>(
     ensures within { (r : ℕ) → D.room worker.old ≡ Some r → result ≤ r }
     ensures cause { (r : ℕ) → D.room worker.old ≡ Some r → result < min (min (offered max burst.old) (ring.old.cap - length ring.old.slots)) r → Rose (D.stalls worker.old) (D.stalls worker.new) }
     ensures room { D.room worker.new ≡ option_map (λ r. r - result) (D.room worker.old) }
-    ensures log { D.log worker.new ≡ option_map (λ l. l ++ renumbered (ring.old.first + length ring.old.slots) (front_log result burst.old)) (D.log worker.old) }
+    ensures log { D.log worker.new ≡ option_map (λ l. l ++ renumbered (number ring.old (length ring.old.slots)) (front_log result burst.old)) (D.log worker.old) }
     ensures taken { (D.stats worker.new).enqueued ≡ capped ((D.stats worker.old).enqueued + result) }
 {
     let offered = max.min(burst.len()).min(ring.free());

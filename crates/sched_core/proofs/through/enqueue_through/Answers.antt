@@ -46,10 +46,16 @@ log_numbered a (suc n) zero ops h = absurd (omega (arith, h))
 log_numbered a (suc n) (suc k) [] h = refl
 log_numbered a (suc n) (suc k) (op ∷ ops) h = ap (λ l. log_entry (moved_to (a % 2 ^ 64) op) ∷ l) (log_numbered (a + 1) n k ops (omega (arith, h)))
 
+renumbered-mod : (a b : ℕ) (es : List LogEntry) → a % 2 ^ 64 ≡ b % 2 ^ 64 → renumbered a es ≡ renumbered b es
+renumbered-mod a b [] h = refl
+renumbered-mod a b (e ∷ es) h =
+    let next : (a + 1) % 2 ^ 64 ≡ (b + 1) % 2 ^ 64 = omega (arith, h) in
+    ap (λ n. record e { pos = n } ∷ renumbered (a + 1) es) h ∙ ap (λ l. record e { pos = b % 2 ^ 64 } ∷ l) (renumbered-mod (a + 1) (b + 1) es next)
+
 pub returns-clause-log : goal.returns-clause-log
 returns-clause-log g c =
     let n = c.enqueue_burst-n.result in
     let a = c.args.ring.now.first + length c.args.ring.now.slots in
     let within : n ≤ c.min-offered.result = omega (arith, c.enqueue_burst-n.ensures.offered) in
-    let told = ap (λ (b : Burst _). map log_entry (take n b.ops)) c.number_front.ensures.burst ∙ log_numbered a n c.min-offered.result c.args.burst.now.ops within in
+    let told = ap (λ (b : Burst _). map log_entry (take n b.ops)) c.number_front.ensures.burst ∙ (log_numbered a n c.min-offered.result c.args.burst.now.ops within ∙ renumbered-mod a (a % 2 ^ 64) (map log_entry (take n c.args.burst.now.ops)) (omega arith)) in
     c.enqueue_burst-n.ensures.log ∙ ap (λ (es : List LogEntry). option_map (λ (l : List LogEntry). l ++ es) (g.D.Driver.log c.args.worker.now)) told

@@ -1,0 +1,6 @@
+pub mod Held
+pub mod Given
+pub mod Open
+pub mod Ahead
+pub mod Goings
+pub mod Numbered

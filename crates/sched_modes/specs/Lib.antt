@@ -1,0 +1,5 @@
+pub mod Crew
+pub mod Admits
+pub mod Workers
+pub mod Pool
+pub mod Laws

@@ -1,6 +1,7 @@
 //! Schedulers.
 #![tactic(auto)]
 
+mod draw;
 mod offer;
 mod pool;
 mod pull;

@@ -13,7 +13,7 @@ use Rattle.sched_core.specs.Ring.{Ring, front_of}
 use Rattle.sched_core.specs.Pending.{pending, pending_of, open_numbers, held_as, with_pos, times, HoldsOpen, IsSound, SlotDone, RingDone}
 use Rattle.sched_core.proofs.Lookup.{IsIn, one, count-cons, counted, only, is_one}
 use Rattle.sched_core.proofs.PendingMore.{eqb_refl, exactly}
-use Rattle.sched_modes.specs.Workers.{Taken, NotReady, FrontOpen, IsNewRing, RingFits}
+use Rattle.sched_modes.specs.Workers.{Taken, NotReady, FrontOpen, IsNewRing, RingFits, cap_of}
 
 next_mod : (a b : ℕ) → a % 2 ^ 64 ≡ b % 2 ^ 64 → (a + 1) % 2 ^ 64 ≡ (b + 1) % 2 ^ 64
 next_mod a b h = omega (arith, h)
@@ -147,3 +147,14 @@ new_fits n (Some r) h = rw h (omega arith)
 pub new_pending : {C : Type 0} (n : ℕ) (ring : Option (Ring (Slot C))) (es : List (Entry C)) → es ≡ [] → IsNewRing n ring → pending_of ring es ≡ []
 new_pending n None es e h = e
 new_pending n (Some r) es e h = rw h refl
+
+cap_none : (n : ℕ) → Some n ≡ None → ⊥
+cap_none n e = cc
+
+cap_same : (a b : ℕ) → Some b ≡ Some a → b ≡ a
+cap_same a b e = cc
+
+pub fits_kept : {C : Type 0} (a b : Option (Ring (Slot C))) (n : ℕ) → cap_of b ≡ cap_of a → RingFits a n → RingFits b n
+fits_kept a None n e h = tt
+fits_kept None (Some b) n e h = absurd (cap_none b.cap e)
+fits_kept (Some a) (Some b) n e h = let s = cap_same a.cap b.cap e in omega (arith, s, h)

@@ -4,3 +4,5 @@ pub mod Open
 pub mod Ahead
 pub mod Goings
 pub mod Numbered
+pub mod Crews
+pub mod Draws

@@ -1,5 +1,5 @@
 -- Workers with an order ring or without.
-use Rattle.std.specs.Prelude.{◌≡◌, ℕ, ◌+◌, ◌%◌, ◌^◌, ◌<◌, ◌≤◌, ◌++◌, [], List, map, length, take, drop, Option, None, Some, option_map, slice_index_or}
+use Rattle.std.specs.Prelude.{◌≡◌, ℕ, ◌+◌, ◌%◌, ◌^◌, ◌<◌, ◌≤◌, ◌++◌, ◌==◌, if◌then◌else◌, [], List, map, length, take, drop, Option, None, Some, option_map, slice_index_or}
 use Rattle.std.specs.List.{flat_map}
 use Rattle.std.proofs.Props.{props}
 use Rattle.crypto_model.specs.Counts.{Rose, capped}
@@ -79,7 +79,10 @@ abbrev pub IsNewRing : {C : Type 0} → ℕ → Option (Ring (Slot C)) → Type 
 IsNewRing n None = Unit {0}
 IsNewRing n (Some ring) = ring ≡ record { cap = n; first = 0; slots = [] }
 
--- why a pull of n ended, where so many were asked for
+abbrev pub stop_after : (n asked left : ℕ) → Stop
+stop_after n asked left = if n == asked then Max else (if left == 0 then Empty else NotYet left)
+
+-- what is known where a pull of n ended so, and so many were asked for
 abbrev pub StopIs : {E F : Type 0} → Stop → ℕ → ℕ → List E → List F → Type 0
 StopIs Max n asked pending held = n ≡ asked
 StopIs Empty n asked pending held = (n < asked) × (pending ≡ [])

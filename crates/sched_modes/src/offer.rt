@@ -6,7 +6,7 @@ ghost use Rattle.crypto_op.specs.Op.{IsFresh};
 ghost use Rattle.dev_core.specs.Burst.{offered, rest_of, front, front_log};
 ghost use Rattle.sched_core.specs.Pending.{IsSound, RingDone, InOrder};
 ghost use Rattle.sched_modes.specs.Crew.{IsCause, Grew, account, free, only_for, told};
-ghost use Rattle.sched_modes.specs.Workers.{Serves, SameBut, together, pending_with, places};
+ghost use Rattle.sched_modes.specs.Workers.{Serves, SameBut, together, pending_with, places, cap_of};
 
 use crypto_op::OpBurst;
 use dev_core::Driver;
@@ -43,6 +43,7 @@ pub(crate) fn offer<C: Drop, D: Driver<C>>(
     ensures in_order { InOrder ring.old → pending_with D.Driver ring.new workers devs.new.items ≡ pending_with D.Driver ring.old workers devs.old.items ++ front result burst.old }
     ensures sound { IsSound ring.new (together D.Driver workers devs.new.items) }
     ensures answered { (sessions : List (List Transform)) → RingDone sessions ring.old → RingDone sessions ring.new }
+    ensures cap { cap_of ring.new ≡ cap_of ring.old }
     ensures ring { Grew result (places ring.old) (places ring.new) }
     ensures serves { Serves D.Driver (only_for turn (told (places ring.old) (front_log result burst.old))) workers devs.old.items devs.new.items }
     ensures same { SameBut turn devs.old.items devs.new.items }

@@ -6,3 +6,4 @@ pub mod PendingMore
 pub mod Settling
 pub mod Digits
 pub mod Fields
+pub mod Renumbered

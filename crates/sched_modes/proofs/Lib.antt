@@ -6,3 +6,5 @@ pub mod Goings
 pub mod Numbered
 pub mod Crews
 pub mod Draws
+pub mod Bursts
+pub mod Turns

@@ -13,10 +13,6 @@ pub length_numbered : {C : Type 0} (n : ℕ) (es : List (Entry C)) → length (n
 length_numbered n [] = refl
 length_numbered n (e ∷ es) = ap suc (length_numbered (n + 1) es)
 
-pub length_renumbered : (n : ℕ) (es : List LogEntry) → length (renumbered n es) ≡ length es
-length_renumbered n [] = refl
-length_renumbered n (e ∷ es) = ap suc (length_renumbered (n + 1) es)
-
 pub opened_done : {C : Type 0} (t : List (List Transform)) (ops : List (Op C)) → All (SlotDone t) (map opened ops)
 opened_done t [] = All-nil (SlotDone t)
 opened_done t (op ∷ ops) = All-cons (SlotDone t) (opened op) (map opened ops) tt (opened_done t ops)

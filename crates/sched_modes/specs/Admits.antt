@@ -1,6 +1,6 @@
 -- How many operations a scheduler accepts if none of its workers stalls, where they tell their rooms.
-use Rattle.std.specs.Prelude.{ℕ, zero, suc, ◌+◌, ◌-◌, ◌==◌, min, nat_lt, List, [], ◌∷◌, length, take, Option, None, Some, option_map, if◌then◌else◌}
-use Rattle.sched_modes.specs.Crew.{Crew, worker, free, size_worker}
+use Rattle.std.specs.Prelude.{ℕ, zero, suc, ◌+◌, ◌-◌, min, nat_lt, List, [], ◌∷◌, length, take, Option, None, Some, option_map, if◌then◌else◌}
+use Rattle.sched_modes.specs.Crew.{Crew, worker, free, one_at, share, size_worker}
 
 -- round-robin: as many as the worker whose turn it is has room for
 abbrev pub round_admits : Crew → List ℕ → Option ℕ
@@ -15,15 +15,6 @@ both (Some a) (Some b) = Some (a + b)
 -- fail-over: as many as both workers have room for
 abbrev pub fail_admits : Crew → List ℕ → Option ℕ
 fail_admits c lens = option_map (λ r. min (free c.ring (length lens)) r) (both (worker c 0).room (worker c 1).room)
-
--- one, where the two are the same
-abbrev pub one_at : ℕ → ℕ → ℕ
-one_at j k = if k == j then 1 else 0
-
--- how many of these lengths are worker k's
-abbrev pub share : ℕ → ℕ → List ℕ → ℕ
-share threshold k [] = 0
-share threshold k (l ∷ ls) = one_at (size_worker threshold l) k + share threshold k ls
 
 -- of two rooms that of worker j
 abbrev pub room_for : ℕ → ℕ → ℕ → ℕ

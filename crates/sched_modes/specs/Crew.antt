@@ -1,5 +1,5 @@
 -- What a call of a scheduler does with its workers, who are seen as plain data.
-use Rattle.std.specs.Prelude.{◌≡◌, ℕ, zero, suc, ◌+◌, ◌-◌, ◌%◌, ◌^◌, ◌<◌, ◌≤◌, ◌==◌, min, Bool, List, [], ◌∷◌, ◌++◌, length, take, drop, nat_lt, Option, None, Some, option_map, slice_get, slice_index_or, if◌then◌else◌}
+use Rattle.std.specs.Prelude.{◌≡◌, ℕ, zero, suc, ◌+◌, ◌-◌, ◌%◌, ◌^◌, ◌<◌, ◌≤◌, ◌==◌, min, Bool, List, [], ◌∷◌, ◌++◌, length, map, take, drop, nat_lt, Option, None, Some, option_map, slice_get, slice_index_or, if◌then◌else◌}
 use Rattle.std.specs.List.{filter, sum_by}
 use Rattle.crypto_model.specs.Counts.{capped, Rose}
 use Rattle.dev_core.specs.declared.driver.LogEntry.{LogEntry}
@@ -121,13 +121,25 @@ size_worker threshold n = if nat_lt n threshold then 1 else 0
 abbrev pub of_size : ℕ → ℕ → List LogEntry → List LogEntry
 of_size threshold k ops = filter (λ e. k == size_worker threshold e.data_len) ops
 
--- Each worker takes those of its sizes. The worker of the first operation that is left had no room for it, or stalled.
+-- one, where the two are the same
+abbrev pub one_at : ℕ → ℕ → ℕ
+one_at j k = if k == j then 1 else 0
+
+-- how many of these lengths are worker k's
+abbrev pub share : ℕ → ℕ → List ℕ → ℕ
+share threshold k [] = 0
+share threshold k (l ∷ ls) = one_at (size_worker threshold l) k + share threshold k ls
+
+abbrev pub lengths : List LogEntry → List ℕ
+lengths ops = map (λ e. e.data_len) ops
+
+-- Each worker takes those of its sizes, as far as it has room. The worker of the first operation that is left had no room for it, or stalled.
 pub record SizeOffers (threshold : ℕ) (old : Crew) (ops : List LogEntry) (n : ℕ) (new : Crew) : Type 0 where
   pub deals : DealsOut (λ k. of_size threshold k (told old.ring (take n ops))) n old new
   pub most : n ≤ free old.ring (length ops)
   pub ring : Grew n old.ring new.ring
   pub two : length old.workers ≡ 2
-  pub rooms : (k r : ℕ) → k < 2 → (worker old k).room ≡ Some r → (length (of_size threshold k (take n ops)) ≤ r) × ((worker new k).room ≡ Some (r - length (of_size threshold k (take n ops))))
+  pub rooms : (k r : ℕ) → k < 2 → (worker old k).room ≡ Some r → (share threshold k (lengths (take n ops)) ≤ r) × ((worker new k).room ≡ Some (r - share threshold k (lengths (take n ops))))
   pub cause : n < free old.ring (length ops) → (e : LogEntry) (r : ℕ) → slice_get ops n ≡ Some e → (worker new (size_worker threshold e.data_len)).room ≡ Some r → 0 < r
     → Rose (worker old (size_worker threshold e.data_len)).stalls (worker new (size_worker threshold e.data_len)).stalls
 

@@ -10,6 +10,7 @@ use Rattle.std.proofs.lemmas.List.{length-map, length-take}
 use Rattle.crypto_op.specs.Op.{data_len_of}
 use Rattle.dev_core.specs.Burst.{lens}
 use Rattle.sched_core.proofs.Dealt.{rest_is, front_is, fresh_is, length_dealt_burst}
+use Rattle.sched_core.proofs.Renumbered.{renumbered-mod}
 use Rattle.sched_core.proofs.through.enqueue_through.Goals as goal
 
 pub enqueue_burst-n-requires : goal.enqueue_burst-n-requires
@@ -45,12 +46,6 @@ log_numbered a zero k ops h = refl
 log_numbered a (suc n) zero ops h = absurd (omega (arith, h))
 log_numbered a (suc n) (suc k) [] h = refl
 log_numbered a (suc n) (suc k) (op ∷ ops) h = ap (λ l. log_entry (moved_to (a % 2 ^ 64) op) ∷ l) (log_numbered (a + 1) n k ops (omega (arith, h)))
-
-renumbered-mod : (a b : ℕ) (es : List LogEntry) → a % 2 ^ 64 ≡ b % 2 ^ 64 → renumbered a es ≡ renumbered b es
-renumbered-mod a b [] h = refl
-renumbered-mod a b (e ∷ es) h =
-    let next : (a + 1) % 2 ^ 64 ≡ (b + 1) % 2 ^ 64 = omega (arith, h) in
-    ap (λ n. record e { pos = n } ∷ renumbered (a + 1) es) h ∙ ap (λ l. record e { pos = b % 2 ^ 64 } ∷ l) (renumbered-mod (a + 1) (b + 1) es next)
 
 pub returns-clause-log : goal.returns-clause-log
 returns-clause-log g c =

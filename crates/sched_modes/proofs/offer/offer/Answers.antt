@@ -12,10 +12,11 @@ use Rattle.sched_core.specs.Pending.{numbered, opened, pending_of, IsSound, Slot
 use Rattle.sched_core.specs.Ring.{number}
 use Rattle.sched_core.specs.Logged.{renumbered}
 use Rattle.sched_core.proofs.PendingMore.{holds_more, pending_more}
+use Rattle.sched_core.proofs.Renumbered.{length_renumbered}
 use Rattle.sched_modes.specs.Workers.{together}
 use Rattle.sched_modes.proofs.Held.{held_set, same_at}
 use Rattle.sched_modes.proofs.Goings.{each_at, goes_in}
-use Rattle.sched_modes.proofs.Numbered.{length_numbered, length_renumbered, opened_done}
+use Rattle.sched_modes.proofs.Numbered.{length_numbered, opened_done}
 use Rattle.sched_modes.proofs.offer.offer.Goals as goal
 
 pub returns-in-Some-clause-in_order : goal.returns-in-Some-clause-in_order

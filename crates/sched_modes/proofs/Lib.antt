@@ -8,3 +8,5 @@ pub mod Crews
 pub mod Draws
 pub mod Bursts
 pub mod Turns
+pub mod Two
+pub mod Failing

@@ -2,11 +2,13 @@
 #![tactic(auto)]
 
 mod draw;
+mod fail;
 mod offer;
 mod pool;
 mod pull;
 mod round;
 
+pub use fail::FailOver;
 pub use pool::Pool;
 pub use pull::{Got, Stop};
 pub use round::RoundRobin;

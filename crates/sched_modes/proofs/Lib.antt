@@ -10,3 +10,5 @@ pub mod Bursts
 pub mod Turns
 pub mod Two
 pub mod Failing
+pub mod Sizes
+pub mod SizeStep

@@ -3,3 +3,4 @@ pub mod Admits
 pub mod Workers
 pub mod Pool
 pub mod Laws
+pub mod Sizing

@@ -12,3 +12,5 @@ pub mod Two
 pub mod Failing
 pub mod Sizes
 pub mod SizeStep
+pub mod Longest
+pub mod Sized

@@ -50,10 +50,11 @@ total_below (suc w) t ops h =
 pub total_only : (w t : ℕ) (ops : List LogEntry) → t < w → total w (λ k. length (only_for t ops k)) ≡ length ops
 total_only zero t ops h = absurd (omega (arith, h))
 total_only (suc w) t ops h = elim (eqb_tells w t) [
-    inl i ↦ let o = ap length (only_at t w ops i.1) in let r = total_below w t ops (let e = i.1 in omega (arith, e)) in omega (arith, o, r)
+  | inl i ↦ let o = ap length (only_at t w ops i.1) in let r = total_below w t ops (let e = i.1 in omega (arith, e)) in omega (arith, o, r)
   | inr f ↦
       let d = f.1 in
       let lt : t < w = omega (arith, h, d) in
       let o = ap length (only_off t w ops d) in
       let r = total_only w t ops lt in
-      omega (arith, o, r) ]
+      omega (arith, o, r)
+]

@@ -54,7 +54,7 @@ of_worker m w devs devs' P k lt within len h =
     let d = (some_at devs k (omega (arith, lt, within))).0 in
     let within' : w ≤ length devs' = omega (arith, within, len) in
     subst (λ (a : Account). P a (get_or (map (account m) (take w devs')) k nobody)) (sym (worker_at m w devs k d lt within))
-      (subst (P (account m (get_or devs k d))) (sym (worker_at m w devs' k d lt within')) (h d))
+    (subst (P (account m (get_or devs k d))) (sym (worker_at m w devs' k d lt within')) (h d))
 
 pub deals_out : {C D : Type 0} (m : Ghosts D C) (parts : ℕ → List LogEntry) (n w : ℕ) (devs devs' : List D) (t t' : ℕ) (o o' : Option Places) → w ≤ length devs → Serves m parts w devs devs' → total w (λ k. length (parts k)) ≡ n
     → DealsOut parts n (record { turn = t; workers = map (account m) (take w devs); ring = o }) (record { turn = t'; workers = map (account m) (take w devs'); ring = o' })
@@ -75,11 +75,12 @@ pub some_holds : {C D : Type 0} (m : Ghosts D C) (w : ℕ) (devs : List D) → 0
 some_holds m zero devs h = absurd (omega (arith, h))
 some_holds m (suc w) [] h = absurd (omega (arith, h))
 some_holds m (suc w) (x ∷ devs) h = elim (any (m.held x)) [
-    inl e ↦ (0, omega arith, omega arith, λ d. e)
+  | inl e ↦ (0, omega arith, omega arith, λ d. e)
   | inr n ↦
       let r = some_holds m w devs (omega (arith, h, length-append (m.held x) (together m w devs), n)) in
       let lt : r.0 < w = r.1 in let below : r.0 < length devs = r.2 in
-      (suc r.0, omega (arith, lt), omega (arith, below), r.3) ]
+      (suc r.0, omega (arith, lt), omega (arith, below), r.3)
+]
 
 -- none does, where no account does
 pub none_holds : {C D : Type 0} (m : Ghosts D C) (w : ℕ) (devs : List D) → w ≤ length devs → ((k : ℕ) → k < w → (get_or (map (account m) (take w devs)) k nobody).held ≡ 0) → length (together m w devs) ≡ 0

@@ -47,8 +47,8 @@ draws_from m w t asked n devs devs' ring ring' within s kept stalled sound front
       ring = kept;
       all_back = λ less none. ring_empty ring' (together m w devs') (none_holds m w devs' (omega (arith, within, s.len)) (λ k lt. none k (omega (arith, lt, count)))) sound (front less);
       emptied = λ less k lt.
-        let i : k < w = omega (arith, lt, count) in
-        of_worker m w devs devs' (λ a b. 0 < b.held → Rose a.stalls b.stalls) k i within s.len (λ d. stalled less k d i);
+          let i : k < w = omega (arith, lt, count) in
+          of_worker m w devs devs' (λ a b. 0 < b.held → Rose a.stalls b.stalls) k i within s.len (λ d. stalled less k d i);
     }
 
 -- fewer came than were pending and asked for only where a worker stalled
@@ -59,21 +59,24 @@ draws_less m w t asked n devs devs' ring ring' out pend within s kept stalled so
     let d = draws_from m w t asked n devs devs' ring ring' within s kept stalled sound front in
     let es = together m w devs' in
     let some : 0 < length es = elim (eqb_tells (length es) 0) [
-        inl none ↦ absurd (omega (arith, ap length (nothing_pending ring' es none.1 sound (front less)), length_permutation (out ++ pending_of ring' es) pend p, length-append out (pending_of ring' es), len, fewer))
-      | inr more ↦ (let k = more.1 in omega (arith, k)) ] in
+      | inl none ↦ absurd (omega (arith, ap length (nothing_pending ring' es none.1 sound (front less)), length_permutation (out ++ pending_of ring' es) pend p, length-append out (pending_of ring' es), len, fewer))
+      | inr more ↦ (let k = more.1 in omega (arith, k))
+    ] in
     let h = some_holds m w devs' some in
     let lt : h.0 < w = h.1 in
     crew_stalls (λ k. []) 0 _ _ h.0 d.deals (omega (arith, lt, count_workers m w devs within))
-      (of_worker m w devs devs' (λ a b. Rose a.stalls b.stalls) h.0 lt within s.len (λ x. stalled less h.0 x lt (h.3 x)))
+    (of_worker m w devs devs' (λ a b. Rose a.stalls b.stalls) h.0 lt within s.len (λ x. stalled less h.0 x lt (h.3 x)))
 
 -- why a pull of n ended
 pub stop_is : {C : Type 0} (ring : Option (Ring (Slot C))) (es : List (Entry C)) (n asked left : ℕ) → n ≤ asked → left ≡ capped (length es) → IsSound ring es → (n < asked → NotReady ring) → StopIs (stop_after n asked left) n asked (pending_of ring es) es
 stop_is ring es n asked left within is sound front = elim (eqb_tells n asked) [
-    inl e ↦ rw e.0 e.1
+  | inl e ↦ rw e.0 e.1
   | inr f ↦
       let less : n < asked = (let d = f.1 in omega (arith, within, d)) in
       elim (eqb_tells left 0) [
-        inl e ↦ rw (f.0, e.0) (less, nothing_pending ring es (let z = e.1 in omega (arith, z, is)) sound (front less))
-      | inr g ↦
-          let some : 0 < left = (let d = g.1 in omega (arith, d)) in
-          rw (f.0, g.0) (less, some, is, (open_front ring es (omega (arith, some, is)) sound (front less)).1) ] ]
+        | inl e ↦ rw (f.0, e.0) (less, nothing_pending ring es (let z = e.1 in omega (arith, z, is)) sound (front less))
+        | inr g ↦
+            let some : 0 < left = (let d = g.1 in omega (arith, d)) in
+            rw (f.0, g.0) (less, some, is, (open_front ring es (omega (arith, some, is)) sound (front less)).1)
+      ]
+]

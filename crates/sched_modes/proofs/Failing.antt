@@ -56,13 +56,13 @@ fail_offers m on w devs devs1 devs2 t o o1 o2 b b1 most f s within two rest few 
       both = refl;
       most = rw all (omega (arith, few, few1, left));
       deals = subst (λ (zs : List LogEntry). DealsTwo m w devs devs2 t o o2 (f + s) zs (drop f (told o (take (f + s) (front_log most b))))) (sym (take_front f _ xs ys joined f_is))
-        (subst (λ (zs : List LogEntry). DealsTwo m w devs devs2 t o o2 (f + s) xs zs) (sym (drop_front f _ xs ys joined f_is)) deals);
+          (subst (λ (zs : List LogEntry). DealsTwo m w devs devs2 t o o2 (f + s) xs zs) (sym (drop_front f _ xs ys joined f_is)) deals);
       ring = grew_two f s o o1 o2 grew grew1;
       two = count ∙ two;
       cause = rw all (of_worker m w devs devs2 (IsCause (free o (offered most b)) f) 0 (omega (arith, two)) within served.len
-        (λ d. subst (λ (x : _). IsCause (free o (offered most b)) f (account m (get_or devs 0 d)) (account m x)) (sym (same1 0 d (λ e. omega (arith, e)))) (cause d)));
+          (λ d. subst (λ (x : _). IsCause (free o (offered most b)) f (account m (get_or devs 0 d)) (account m x)) (sym (same1 0 d (λ e. omega (arith, e)))) (cause d)));
       cause_behind = rw (all, sym left) (of_worker m w devs devs2 (IsCause (free o1 (offered (most - f) b1)) s) 1 (omega (arith, two)) within served.len
-        (λ d. subst (λ (x : _). IsCause (free o1 (offered (most - f) b1)) s (account m x) (account m (get_or devs2 1 d))) (same 1 d (λ e. omega (arith, e))) (cause1 d)));
+          (λ d. subst (λ (x : _). IsCause (free o1 (offered (most - f) b1)) s (account m x) (account m (get_or devs2 1 d))) (same 1 d (λ e. omega (arith, e))) (cause1 d)));
     }
 
 some_same : (a b : ℕ) → Some a ≡ Some b → a ≡ b
@@ -90,6 +90,7 @@ fail_stalls old new ops lens n a is o e less =
     let len = free_lens old.ring ops lens is in
     let all = free old.ring (length ops) in
     elim (below o.first (min all r.0)) [
-      inl fewer ↦ crew_stalls _ n old new 0 o.deals (omega (arith, o.two)) ((o.cause r.0 r.2).1 fewer)
-    | inr more ↦ crew_stalls _ n old new 1 o.deals (omega (arith, o.two))
-        ((o.cause_behind r.1 r.3).1 (omega (arith, r.4, len, less, more, o.both, (o.cause r.0 r.2).0, o.most))) ]
+      | inl fewer ↦ crew_stalls _ n old new 0 o.deals (omega (arith, o.two)) ((o.cause r.0 r.2).1 fewer)
+      | inr more ↦ crew_stalls _ n old new 1 o.deals (omega (arith, o.two))
+          ((o.cause_behind r.1 r.3).1 (omega (arith, r.4, len, less, more, o.both, (o.cause r.0 r.2).0, o.most)))
+    ]

@@ -16,7 +16,7 @@ kept_more o0 o o' n e f c =
     let all : o'.ops ≡ o.ops ++ xs = ap (λ (b : Burst _). b.ops) f in
     let drops : drop l o'.ops ≡ drop l o.ops ++ xs = ap (drop l) all ∙ behind_more o0.ops o.ops xs n c in
     let ops : o'.ops ≡ o0.ops ++ drop l o'.ops =
-      all ∙ (ap (λ z. z ++ xs) (ap (λ (b : Burst _). b.ops) e) ∙ (append_assoc o0.ops (drop l o.ops) xs ∙ ap (λ z. o0.ops ++ z) (sym drops))) in
+    all ∙ (ap (λ z. z ++ xs) (ap (λ (b : Burst _). b.ops) e) ∙ (append_assoc o0.ops (drop l o.ops) xs ∙ ap (λ z. o0.ops ++ z) (sym drops))) in
     ap (λ a. record { cap = a; ops = o'.ops }) cap ∙ ap (λ z. record { cap = o0.cap; ops = z }) ops
 
 pub rose_later : (a b c : ℕ) → a ≤ b → Rose b c → Rose a c
@@ -37,7 +37,7 @@ kept_push o0 o o' x n e f c =
     let all : o'.ops ≡ o.ops ++ x ∷ [] = ap (λ (b : Burst _). b.ops) f in
     let drops : drop l o'.ops ≡ drop l o.ops ++ x ∷ [] = ap (drop l) all ∙ behind_more o0.ops o.ops (x ∷ []) n c in
     let ops : o'.ops ≡ o0.ops ++ drop l o'.ops =
-      all ∙ (ap (λ z. z ++ x ∷ []) (ap (λ (b : Burst _). b.ops) e) ∙ (append_assoc o0.ops (drop l o.ops) (x ∷ []) ∙ ap (λ z. o0.ops ++ z) (sym drops))) in
+    all ∙ (ap (λ z. z ++ x ∷ []) (ap (λ (b : Burst _). b.ops) e) ∙ (append_assoc o0.ops (drop l o.ops) (x ∷ []) ∙ ap (λ z. o0.ops ++ z) (sym drops))) in
     (drops, ap (λ a. record { cap = a; ops = o'.ops }) cap ∙ ap (λ z. record { cap = o0.cap; ops = z }) ops, omega (arith, ap length all, length-append o.ops (x ∷ []), c))
 
 pub all_behind : {X : Type 0} (o o' : Burst X) → o.ops ≡ [] → drop (length o.ops) o'.ops ≡ o'.ops
@@ -48,4 +48,3 @@ emptied s o o' o2 xs n e f h =
     let cap : o2.cap ≡ s.cap = ap (λ (b : Burst _). b.cap) h ∙ (ap (λ (b : Burst _). b.cap) f ∙ ap (λ (b : Burst _). b.cap) e) in
     let ops : o2.ops ≡ s.ops = ap (λ (b : Burst _). b.ops) h ∙ sym n in
     ap (λ a. record { cap = a; ops = o2.ops }) cap ∙ ap (λ z. record { cap = s.cap; ops = z }) ops
-

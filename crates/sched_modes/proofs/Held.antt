@@ -56,8 +56,8 @@ held_back held (x ∷ xs) (suc w) zero d d' out h k e p =
     let f = flat_map held (take w xs) in
     let q : IsPermutation (out ++ held d') (held x) = rw e at p in
     IsPermutation-trans ((held d' ++ f) ++ out) (out ++ (held d' ++ f)) (held x ++ f)
-      (IsPermutation-append_comm (held d' ++ f) out)
-      (rw (← append_assoc out (held d') f) (IsPermutation-append_left f (out ++ held d') (held x) q))
+    (IsPermutation-append_comm (held d' ++ f) out)
+    (rw (← append_assoc out (held d') f) (IsPermutation-append_left f (out ++ held d') (held x) q))
 held_back held (x ∷ xs) (suc w) (suc t) d d' out h k e p =
     let f = flat_map held (take w (set xs t d')) in
     let r = held_back held xs w t d d' out (omega arith) (omega arith) e p in
@@ -72,16 +72,16 @@ held_within held (x ∷ xs) (suc w) (suc t) d h k e = let r = held_within held x
 pub held_out : {D E : Type 0} (held : D → List E) (devs : List D) (w t : ℕ) (d d' : D) (out : List E) → t < w → t < length devs → d ≡ get_or devs t d → IsPermutation (out ++ held d') (held d) → IsPermutation (out ++ flat_map held (take w (set devs t d'))) (flat_map held (take w devs))
 held_out held devs w t d d' out h k e p =
     IsPermutation-trans (out ++ flat_map held (take w (set devs t d'))) (flat_map held (take w (set devs t d')) ++ out) (flat_map held (take w devs))
-      (IsPermutation-append_comm out (flat_map held (take w (set devs t d')))) (held_back held devs w t d d' out h k e p)
+    (IsPermutation-append_comm out (flat_map held (take w (set devs t d')))) (held_back held devs w t d d' out h k e p)
 
 -- what holds of each pair below i, and of the new one
 pub up_to : {D : Type 0} (P : D → D → Type 0) (old new : List D) (i : ℕ) (d' : D) → i < length new → ((k : ℕ) (x : D) → k < i → P (get_or old k x) (get_or new k x)) → ((x : D) → P (get_or old i x) d') → (k : ℕ) (x : D) → k < i + 1 → P (get_or old k x) (get_or (set new i d') k x)
 up_to P old new i d' h before here k x l = elim (below k i) [
-    inl less ↦ rw (get_or-set_other new i k d' x (λ e. omega (arith, e, less))) (before k x less)
-  | inr more ↦ let e : k ≡ i = omega (arith, l, more) in rw (e, get_or-set_same new i d' x h) (here x) ]
+  | inl less ↦ rw (get_or-set_other new i k d' x (λ e. omega (arith, e, less))) (before k x less)
+  | inr more ↦ let e : k ≡ i = omega (arith, l, more) in rw (e, get_or-set_same new i d' x h) (here x)
+]
 
 pub same_at : {D : Type 0} (devs : List D) (i : ℕ) (d x : D) → i < length devs → d ≡ get_or devs i d → get_or devs i x ≡ d
 same_at [] i d x h e = absurd (omega arith)
 same_at (y ∷ devs) zero d x h e = sym e
 same_at (y ∷ devs) (suc i) d x h e = same_at devs i d x (omega arith) e
-

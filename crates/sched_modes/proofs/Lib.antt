@@ -14,3 +14,4 @@ pub mod Sizes
 pub mod SizeStep
 pub mod Longest
 pub mod Sized
+pub mod Idle

@@ -25,7 +25,7 @@ longest_le t r s (suc n) [] h x y = absurd (omega (arith, h))
 longest_le t r s (suc n) (l ∷ ls) h x y =
     let j = size_worker t l in
     step_le j r s (share t 0 (take n ls)) (share t 1 (take n ls)) n (longest t (r - one_at j 0) (s - one_at j 1) ls) (size_below t l) x y
-      (λ a b. longest_le t (r - one_at j 0) (s - one_at j 1) n ls (omega (arith, h)) a b)
+    (λ a b. longest_le t (r - one_at j 0) (s - one_at j 1) n ls (omega (arith, h)) a b)
 
 more_zero : (a f : ℕ) → 0 < (if nat_lt 0 a then suc f else 0) → 0 < a
 more_zero a f h = elim (below 0 a) [ inl l ↦ l | inr m ↦ absurd (omega (arith, h, not_so a f m)) ]

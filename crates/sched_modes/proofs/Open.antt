@@ -28,9 +28,9 @@ same_length (x ∷ xs) ys h =
     let c = count-cons (λ z. z == x) x xs in let o = is_one x x refl in let k = h x in
     let s = split x ys (listed x ys (omega (arith, c, o, k))) in
     let r = same_length xs (s.0 ++ s.1) (λ n.
-      let a = count-cons (λ z. z == n) x xs in let b = count-append (λ z. z == n) s.0 (x ∷ s.1) in let d = count-cons (λ z. z == n) x s.1 in
-      let e = count-append (λ z. z == n) s.0 s.1 in let f = h n in let g : times n ys ≡ times n (s.0 ++ x ∷ s.1) = ap (times n) s.2 in
-      omega (arith, a, b, d, e, f, g)) in
+    let a = count-cons (λ z. z == n) x xs in let b = count-append (λ z. z == n) s.0 (x ∷ s.1) in let d = count-cons (λ z. z == n) x s.1 in
+    let e = count-append (λ z. z == n) s.0 s.1 in let f = h n in let g : times n ys ≡ times n (s.0 ++ x ∷ s.1) = ap (times n) s.2 in
+    omega (arith, a, b, d, e, f, g)) in
     omega (arith, r, ap length s.2, length-append s.0 (x ∷ s.1), length-append s.0 s.1)
 
 length_open : {C : Type 0} (a : ℕ) (slots : List (Slot C)) → length (open_numbers a slots) ≤ length slots
@@ -68,6 +68,5 @@ pending_moved r es fs p s =
 pub taken_more : {C : Type 0} (r0 r s : Ring (Slot C)) (ops : List (Op C)) (op : Op C) → Taken r0 r ops → r.slots ≡ Settled op ∷ s.slots → s ≡ record r { first = (r.first + 1) % 2 ^ 64; slots = s.slots } → Taken r0 s (ops ++ op ∷ [])
 taken_more r0 r s ops op t e f =
     let slots : r0.slots ≡ map Settled (ops ++ op ∷ []) ++ s.slots =
-      t.0 ∙ (ap (λ l. map Settled ops ++ l) e ∙ (sym (append_assoc (map Settled ops) (Settled op ∷ []) s.slots) ∙ ap (λ l. l ++ s.slots) (sym (map-append Settled ops (op ∷ []))))) in
+    t.0 ∙ (ap (λ l. map Settled ops ++ l) e ∙ (sym (append_assoc (map Settled ops) (Settled op ∷ []) s.slots) ∙ ap (λ l. l ++ s.slots) (sym (map-append Settled ops (op ∷ []))))) in
     (slots, ap (λ (x : Ring _). x.cap) f ∙ t.1, omega (arith, ap (λ (x : Ring _). x.first) f, t.2, length-append ops (op ∷ [])))
-

@@ -28,9 +28,12 @@ use Rattle.sched_modes.proofs.Two.{fresh_rest, front_two, grew_two, order_two, p
 
 went_as : {C D : Type 0} {m : Ghosts D C} (f g : ℕ → List LogEntry) (p q : Pool C D m) → ((k : ℕ) → f k ≡ g k) → WentOn f p q → WentOn g p q
 went_as {m = m} f g p q e w = record {
-    workers = w.workers; threshold = w.threshold; sessions = w.sessions; cap = w.cap;
-    devs = record { len = w.devs.len; others = w.devs.others; each = λ k d. subst (λ (ops : List LogEntry). Goes m ops (get_or p.devs.items k d) (get_or q.devs.items k d)) (e k) (w.devs.each k d) };
-  }
+  workers = w.workers;
+  threshold = w.threshold;
+  sessions = w.sessions;
+  cap = w.cap;
+  devs = record { len = w.devs.len; others = w.devs.others; each = λ k d. subst (λ (ops : List LogEntry). Goes m ops (get_or p.devs.items k d) (get_or q.devs.items k d)) (e k) (w.devs.each k d) };
+}
 
 grew_none : {C : Type 0} (ring : Option (Ring (Slot C))) → Grew 0 (places ring) (places ring)
 grew_none None = refl
@@ -42,17 +45,19 @@ lens_two m n a b e = rw e (ap (map (λ (o : Op _). data_len_of o.spec)) (take-ad
 -- what a worker's room is behind the next operation, for worker j
 room_next : {D : Type 0} (room : D → Option ℕ) (devs1 devs2 : List D) (j i k r s x : ℕ) (d : D) → (k ≡ j → x ≡ i) → (k ≢ j → x ≡ 0) → (s ≤ r) × (room (get_or devs1 k d) ≡ Some (r - s)) → ((y : D) → room (get_or devs2 j y) ≡ option_map (λ q. q - i) (room (get_or devs1 j y))) → ((y : D) (q : ℕ) → room (get_or devs1 j y) ≡ Some q → i ≤ q) → SameBut j devs1 devs2 → (s + x ≤ r) × (room (get_or devs2 k d) ≡ Some (r - (s + x)))
 room_next room devs1 devs2 j i k r s x d here else before told within same = elim (eqb_tells k j) [
-    inl e ↦
+  | inl e ↦
       let is = here e.1 in
       let now : room (get_or devs1 j d) ≡ Some (r - s) = subst (λ t. room (get_or devs1 t d) ≡ Some (r - s)) e.1 before.1 in
       let most = within d (r - s) now in
-      let left : (r - s) - i ≡ r - (s + x) = omega (arith, is, before.0) in
-      (omega (arith, is, most, before.0),
-       subst (λ t. room (get_or devs2 t d) ≡ Some (r - (s + x))) (sym e.1) (told d ∙ (ap (option_map (λ q. q - i)) now ∙ ap Some left)))
+      let left : (r - s) - i ≡ r - (s + x) = omega (arith, is, before.0) in (
+        omega (arith, is, most, before.0),
+        subst (λ t. room (get_or devs2 t d) ≡ Some (r - (s + x))) (sym e.1) (told d ∙ (ap (option_map (λ q. q - i)) now ∙ ap Some left)),
+      )
   | inr f ↦
       let is = else f.1 in
       let left : r - s ≡ r - (s + x) = omega (arith, is) in
-      (omega (arith, is, before.0), ap room (same k d f.1) ∙ (before.1 ∙ ap Some left)) ]
+      (omega (arith, is, before.0), ap room (same k d f.1) ∙ (before.1 ∙ ap Some left))
+]
 
 none_told : (o : Option Places) (t k : ℕ) → [] ≡ of_size t k (told o [])
 none_told None t k = refl
@@ -60,14 +65,14 @@ none_told (Some p) t k = refl
 
 pub none_dealt : {C D : Type 0} {m : Ghosts D C} → ((a : D) → m.follows a a) → (p : Pool C D m) (b : Burst (Op C)) → DealtBySize p b 0 p b
 none_dealt same p b = record {
-    rest = refl;
-    pending = rw (append-nil (pending_in p)) (IsPermutation-refl (pending_in p));
-    in_order = λ o. sym (append-nil (pending_in p));
-    ring = grew_none p.ring;
-    went = went_as (λ k. []) (λ k. of_size p.threshold k (told (places p.ring) [])) p p (λ k. none_told (places p.ring) p.threshold k) (went_same same p);
-    rooms = λ k r d e. (omega arith, e ∙ ap Some (let z : r ≡ r - 0 = omega arith in z));
-    stats = refl;
-  }
+  rest = refl;
+  pending = rw (append-nil (pending_in p)) (IsPermutation-refl (pending_in p));
+  in_order = λ o. sym (append-nil (pending_in p));
+  ring = grew_none p.ring;
+  went = went_as (λ k. []) (λ k. of_size p.threshold k (told (places p.ring) [])) p p (λ k. none_told (places p.ring) p.threshold k) (went_same same p);
+  rooms = λ k r d e. (omega arith, e ∙ ap Some (let z : r ≡ r - 0 = omega arith in z));
+  stats = refl;
+}
 
 pub dealt_more : {C D : Type 0} {m : Ghosts D C} → ((a b c : D) → m.follows a b → m.follows b c → m.follows a c) → (p0 p1 p2 : Pool C D m) (b0 b1 b2 : Burst (Op C)) (n i j : ℕ) (op : Op C) → n ≤ length b0.ops → i ≤ 1 → 0 < length b1.ops → op ≡ get_or b1.ops 0 op → j ≡ size_worker p0.threshold (data_len_of op.spec) → i ≤ length b1.ops
     → DealtBySize p0 b0 n p1 b1 → b2 ≡ rest_of i b1 → IsPermutation (pending_in p1 ++ front i b1) (pending_in p2) → (InOrder p1.ring → pending_in p2 ≡ pending_in p1 ++ front i b1) → Grew i (places p1.ring) (places p2.ring)
@@ -89,15 +94,15 @@ dealt_more {m = m} on p0 p1 p2 b0 b1 b2 n i j op few one some first size enough 
       in_order = λ o. order_two (pending_in p0) (pending_in p1) (pending_in p2) (front n b0) (front i b1) (front (n + i) b0) (front_two n i b0 b1 s.rest) (s.in_order o) (order (order_kept p0.ring p1.ring s.went.cap o));
       ring = grew_two n i o0 o1 (places p2.ring) s.ring ring;
       went = went_as (λ k. of_size t k (told o0 (front_log n b0)) ++ only_for j ys k) (λ k. of_size t k (told o0 (front_log (n + i) b0))) p0 p2
-        (λ k. ap (λ l. of_size t k (told o0 (front_log n b0)) ++ l) (sym (of_size-one t j k ys ys_is sized)) ∙ (sym (of_size-append t k (told o0 (front_log n b0)) ys) ∙ ap (of_size t k) (sym both)))
-        (went_two on (λ k. of_size t k (told o0 (front_log n b0))) (only_for j ys) p0 p1 p2 s.went went);
+          (λ k. ap (λ l. of_size t k (told o0 (front_log n b0)) ++ l) (sym (of_size-one t j k ys ys_is sized)) ∙ (sym (of_size-append t k (told o0 (front_log n b0)) ys) ∙ ap (of_size t k) (sym both)))
+          (went_two on (λ k. of_size t k (told o0 (front_log n b0))) (only_for j ys) p0 p1 p2 s.went went);
       rooms = λ k r d e.
-        let x : share t k (lens (n + i) b0) ≡ share t k (lens n b0) + share t k ls = ap (share t k) (lens_two n i b0 b1 s.rest) ∙ share-append t k (lens n b0) ls in
-        subst (λ (y : ℕ). (y ≤ r) × (m.room (get_or p2.devs.items k d) ≡ Some (r - y))) (sym x)
+          let x : share t k (lens (n + i) b0) ≡ share t k (lens n b0) + share t k ls = ap (share t k) (lens_two n i b0 b1 s.rest) ∙ share-append t k (lens n b0) ls in
+          subst (λ (y : ℕ). (y ≤ r) × (m.room (get_or p2.devs.items k d) ≡ Some (r - y))) (sym x)
           (room_next m.room p1.devs.items p2.devs.items j i k r (share t k (lens n b0)) (share t k ls) d
-            (λ q. share-here t k ls (omega (arith, ls_is, one)) (λ l f. measured l f ∙ sym q) ∙ ls_is)
-            (λ q. share-else t j k ls (omega (arith, ls_is, one)) measured q)
-            (s.rooms k r d e) room within same);
+          (λ q. share-here t k ls (omega (arith, ls_is, one)) (λ l f. measured l f ∙ sym q) ∙ ls_is)
+          (λ q. share-else t j k ls (omega (arith, ls_is, one)) measured q)
+          (s.rooms k r d e) room within same);
       stats = stats ∙ s.stats;
     }
 

@@ -57,12 +57,12 @@ size_offers m threshold w devs devs' o o' b most n within two few s grew rooms c
       two = count ∙ two;
       rooms = λ k r lt e. rw measured (of_worker m w devs devs' (λ x y. x.room ≡ Some r → (share threshold k (lens n b) ≤ r) × (y.room ≡ Some (r - share threshold k (lens n b)))) k (omega (arith, lt, two)) within s.len (λ d. rooms k r d) e);
       cause = λ less e r at told some.
-        let less' : n < free o (offered most b) = rw all at less in
-        let found = entry_at n most b.ops e (omega (arith, less', free_le o (offered most b))) at in
-        let j : size_worker threshold (data_len_of found.0.spec) ≡ size_worker threshold e.data_len = ap (λ (x : LogEntry). size_worker threshold x.data_len) found.2 in
-        let stalled = subst (λ (k : ℕ). HasStalled m k devs devs') j (cause less' found.0 found.1) in
-        let lt : size_worker threshold e.data_len < w = (let l = size_below threshold e.data_len in omega (arith, l, two)) in
-        of_worker m w devs devs' (λ x y. y.room ≡ Some r → Rose x.stalls y.stalls) (size_worker threshold e.data_len) lt within s.len (λ d now. stalled r d now some) told;
+          let less' : n < free o (offered most b) = rw all at less in
+          let found = entry_at n most b.ops e (omega (arith, less', free_le o (offered most b))) at in
+          let j : size_worker threshold (data_len_of found.0.spec) ≡ size_worker threshold e.data_len = ap (λ (x : LogEntry). size_worker threshold x.data_len) found.2 in
+          let stalled = subst (λ (k : ℕ). HasStalled m k devs devs') j (cause less' found.0 found.1) in
+          let lt : size_worker threshold e.data_len < w = (let l = size_below threshold e.data_len in omega (arith, l, two)) in
+          of_worker m w devs devs' (λ x y. y.room ≡ Some r → Rose x.stalls y.stalls) (size_worker threshold e.data_len) lt within s.len (λ d now. stalled r d now some) told;
     }
 
 take_lengths : (n : ℕ) (ops : List LogEntry) → take n (lengths ops) ≡ lengths (take n ops)

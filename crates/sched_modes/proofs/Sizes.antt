@@ -85,7 +85,5 @@ length_of zero (x ∷ ops) op h s g l f = absurd (omega (arith, ap length f))
 length_of (suc zero) (x ∷ ops) op h s g l f = let is : data_len_of x.spec ≡ l = cc in sym is ∙ ap (λ (y : Op _). data_len_of y.spec) (sym g)
 length_of (suc (suc n)) (x ∷ ops) op h s g l f = absurd (omega (arith, h))
 
-
 pub first_length : {C : Type 0} (n : ℕ) (b : Burst (Op C)) (op : Op C) → n ≤ 1 → 0 < length b.ops → op ≡ get_or b.ops 0 op → (l : ℕ) → lens n b ≡ l ∷ [] → l ≡ data_len_of op.spec
 first_length n b op h s g l f = length_of n b.ops op h s g l f
-

@@ -141,7 +141,7 @@ pub record SizeOffers (threshold : ℕ) (old : Crew) (ops : List LogEntry) (n : 
   pub two : length old.workers ≡ 2
   pub rooms : (k r : ℕ) → k < 2 → (worker old k).room ≡ Some r → (share threshold k (lengths (take n ops)) ≤ r) × ((worker new k).room ≡ Some (r - share threshold k (lengths (take n ops))))
   pub cause : n < free old.ring (length ops) → (e : LogEntry) (r : ℕ) → slice_get ops n ≡ Some e → (worker new (size_worker threshold e.data_len)).room ≡ Some r → 0 < r
-    → Rose (worker old (size_worker threshold e.data_len)).stalls (worker new (size_worker threshold e.data_len)).stalls
+      → Rose (worker old (size_worker threshold e.data_len)).stalls (worker new (size_worker threshold e.data_len)).stalls
 
 -- fail-over: worker 0 takes the first, and worker 1 the next
 pub record FailOffers (old : Crew) (ops : List LogEntry) (n : ℕ) (new : Crew) : Type 0 where

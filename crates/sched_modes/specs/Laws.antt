@@ -25,11 +25,11 @@ took_same a = record { stalls = omega arith; enqueued = omega arith; log = log_s
 
 pub took_two : (xs ys : List LogEntry) (a b c : Account) → Took xs a b → Took ys b c → Took (xs ++ ys) a c
 took_two xs ys a b c p q = record {
-    stalls = omega (arith, p.stalls, q.stalls);
-    enqueued = omega (arith, p.enqueued, q.enqueued, length-append xs ys);
-    log = q.log ∙ (ap (option_map (λ (l : List LogEntry). l ++ ys)) p.log ∙ log_two xs ys a.log);
-    room = λ r e. let x = p.room r e in let y = q.room x.0 x.1 in (y.0, y.1, y.2 ∙ x.2);
-  }
+  stalls = omega (arith, p.stalls, q.stalls);
+  enqueued = omega (arith, p.enqueued, q.enqueued, length-append xs ys);
+  log = q.log ∙ (ap (option_map (λ (l : List LogEntry). l ++ ys)) p.log ∙ log_two xs ys a.log);
+  room = λ r e. let x = p.room r e in let y = q.room x.0 x.1 in (y.0, y.1, y.2 ∙ x.2);
+}
 
 pub goes_same : {C D : Type 0} (m : Ghosts D C) → ((a : D) → m.follows a a) → (a : D) → Goes m [] a a
 goes_same m same a = record { on = same a; sessions = refl; took = took_same _ }
@@ -51,9 +51,12 @@ went_same {m = m} same p = record { workers = refl; threshold = refl; sessions =
 
 pub went_two : {C D : Type 0} {m : Ghosts D C} → ((a b c : D) → m.follows a b → m.follows b c → m.follows a c) → (f g : ℕ → List LogEntry) (p q r : Pool C D m) → WentOn f p q → WentOn g q r → WentOn (λ k. f k ++ g k) p r
 went_two {m = m} on f g p q r x y = record {
-    workers = y.workers ∙ x.workers; threshold = y.threshold ∙ x.threshold; sessions = y.sessions ∙ x.sessions; cap = y.cap ∙ x.cap;
-    devs = serves_two m on f g p.workers p.devs.items q.devs.items r.devs.items x.devs (subst (λ (w : ℕ). Serves m g w q.devs.items r.devs.items) x.workers y.devs);
-  }
+  workers = y.workers ∙ x.workers;
+  threshold = y.threshold ∙ x.threshold;
+  sessions = y.sessions ∙ x.sessions;
+  cap = y.cap ∙ x.cap;
+  devs = serves_two m on f g p.workers p.devs.items q.devs.items r.devs.items x.devs (subst (λ (w : ℕ). Serves m g w q.devs.items r.devs.items) x.workers y.devs);
+}
 
 pub total_none : (w : ℕ) → total w (λ k. 0) ≡ 0
 total_none zero = refl
@@ -68,13 +71,13 @@ follows_same same p = record { parts = λ k. []; went = went_same same p; enqueu
 
 pub follows_two : {C D : Type 0} {m : Ghosts D C} → ((a b c : D) → m.follows a b → m.follows b c → m.follows a c) → (p q r : Pool C D m) → Follows p q → Follows q r → Follows p r
 follows_two on p q r x y = record {
-    parts = λ k. x.parts k ++ y.parts k;
-    went = went_two on x.parts y.parts p q r x.went y.went;
-    enqueued =
+  parts = λ k. x.parts k ++ y.parts k;
+  went = went_two on x.parts y.parts p q r x.went y.went;
+  enqueued =
       (let a = total_joined p.workers x.parts y.parts in
-       let b : total q.workers (λ k. length (y.parts k)) ≡ total p.workers (λ k. length (y.parts k)) = ap (λ (w : ℕ). total w (λ k. length (y.parts k))) x.went.workers in
-       omega (arith, a, b, x.enqueued, y.enqueued));
-  }
+      let b : total q.workers (λ k. length (y.parts k)) ≡ total p.workers (λ k. length (y.parts k)) = ap (λ (w : ℕ). total w (λ k. length (y.parts k))) x.went.workers in
+      omega (arith, a, b, x.enqueued, y.enqueued));
+}
 
 none_some : {X : Type 0} (x : X) → Some x ≡ None → ⊥
 none_some x e = cc

@@ -4,3 +4,4 @@ pub mod Workers
 pub mod Pool
 pub mod Laws
 pub mod Sizing
+pub mod Running

@@ -21,6 +21,13 @@ impl<C: Drop, D: Driver<C>> FailOver<C, D> {
     {
         FailOver { pool }
     }
+
+    pub(crate) fn into_pool(self) -> Pool<C, D>
+        ensures pool { result ≡ self.pool }
+        ensures workers { result.workers ≡ 2 }
+    {
+        self.pool
+    }
 }
 
 impl<C: Drop, D: Driver<C>> Driver<C> for FailOver<C, D> {

@@ -37,6 +37,12 @@ impl<C: Drop, D: Driver<C>> RoundRobin<C, D> {
     {
         RoundRobin { pool, turn: 0 }
     }
+
+    pub(crate) fn into_pool(self) -> Pool<C, D>
+        ensures { result ≡ self.pool }
+    {
+        self.pool
+    }
 }
 
 impl<C: Drop, D: Driver<C>> Driver<C> for RoundRobin<C, D> {

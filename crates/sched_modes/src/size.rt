@@ -66,6 +66,13 @@ impl<C: Drop, D: Driver<C>> PacketSize<C, D> {
     {
         PacketSize { pool }
     }
+
+    pub(crate) fn into_pool(self) -> Pool<C, D>
+        ensures pool { result ≡ self.pool }
+        ensures workers { result.workers ≡ 2 }
+    {
+        self.pool
+    }
 }
 
 impl<C: Drop, D: Driver<C>> Driver<C> for PacketSize<C, D> {

@@ -26,10 +26,11 @@ settle_all-requires g c =
     let w = c.args.workers in
     let none : o.ops ≡ [] = ap (λ (b : Burst _). b.ops) c.loop-i.invariant.scratch ∙ c.requires.empty in
     let p : IsPermutation (map entry_of o'.ops ++ held d') (held d) = rw (all_behind o o' none) at c.dequeue_burst.ensures.held in
-    let h : i < length devs = omega (arith, c.loop-i-test.true, c.requires.workers, c.loop-i.invariant.len, c.loop-i.devs.ok.0) in
-    (together g.D.Driver w (slice_set devs i d'),
-     sound_moved c.loop-i.ring (together g.D.Driver w (slice_set devs i d') ++ map entry_of o'.ops) (together g.D.Driver w devs)
-       (held_back held devs w i d d' (map entry_of o'.ops) c.loop-i-test.true h c.index_mut-worker.ensures.value p) c.loop-i.invariant.sound)
+    let h : i < length devs = omega (arith, c.loop-i-test.true, c.requires.workers, c.loop-i.invariant.len, c.loop-i.devs.ok.0) in (
+      together g.D.Driver w (slice_set devs i d'),
+      sound_moved c.loop-i.ring (together g.D.Driver w (slice_set devs i d') ++ map entry_of o'.ops) (together g.D.Driver w devs)
+          (held_back held devs w i d d' (map entry_of o'.ops) c.loop-i-test.true h c.index_mut-worker.ensures.value p) c.loop-i.invariant.sound,
+    )
 
 pub loop-i-preserved : goal.loop-i-preserved
 loop-i-preserved g c =
@@ -64,16 +65,16 @@ loop-i-preserved g c =
       sound = c.settle_all.ensures.sound es moved;
       pending = c.settle_all.ensures.pending es moved ∙ (pending_moved r (es ++ map entry_of o'.ops) (together m w devs) back now.sound ∙ now.pending);
       done = λ sessions alike slots.
-        let own : m.sessions d ≡ sessions = ap m.sessions (sym (same_at devs i d d h e)) ∙ ((now.serves.each i d).sessions ∙ alike i d c.loop-i-test.true) in
-        let answers : All (IsDone sessions) o'.ops = rw (all_behind o o' none, own) at got.done in
-        c.settle_all.ensures.done sessions (now.done sessions alike slots) answers;
+          let own : m.sessions d ≡ sessions = ap m.sessions (sym (same_at devs i d d h e)) ∙ ((now.serves.each i d).sessions ∙ alike i d c.loop-i-test.true) in
+          let answers : All (IsDone sessions) o'.ops = rw (all_behind o o' none, own) at got.done in
+          c.settle_all.ensures.done sessions (now.done sessions alike slots) answers;
       ring = (c.settle_all.ensures.ring.0 ∙ now.ring.0, c.settle_all.ensures.ring.1 ∙ now.ring.1, c.settle_all.ensures.ring.2 ∙ now.ring.2);
       scratch = emptied c.args.scratch.now o o' c.settle_all.new.burst (added o o') c.requires.empty now.scratch got.kept c.settle_all.ensures.burst;
       serves = serves_more m g.met.D.Driver.follows_itself g.met.D.Driver.follows_on w devs0 devs i d d' c.loop-i-test.true h e goes now.serves;
       stalled = up_to (λ a b. 0 < length (held b) → Rose (stalls a) (stalls b)) devs0 devs i d' h now.stalled
-        (λ x some. rose_later (stalls (slice_index_or devs0 i x)) (stalls d) (stalls d')
+          (λ x some. rose_later (stalls (slice_index_or devs0 i x)) (stalls d) (stalls d')
           (subst (λ y. stalls (slice_index_or devs0 i x) ≤ stalls y) (same_at devs i d x h e) (now.serves.each i x).took.stalls)
           (gave_all (map entry_of o'.ops) (held d') (held d) c.dequeue_burst.result o.cap (Rose (stalls d) (stalls d')) p count less
-            (λ l. got.cause (omega (arith, l, full, n0))) some));
+          (λ l. got.cause (omega (arith, l, full, n0))) some));
       len = now.len;
     }

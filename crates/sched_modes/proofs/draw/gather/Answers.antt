@@ -44,15 +44,15 @@ loop-i-preserved g c =
       kept = kept_more o0 o o' n now.kept got.kept now.count;
       count = omega (arith, got.count, now.count);
       held = rw (drops, map-append) (given_more (map entry_of (added o0 o)) (map entry_of xs) (together m w devs) (together m w (slice_set devs i d')) (together m w devs0) now.held
-        (held_out held devs w i d d' (map entry_of xs) c.loop-i-test.true h e got.held));
+          (held_out held devs w i d d' (map entry_of xs) c.loop-i-test.true h e got.held));
       done = λ sessions alike.
-        let own : m.sessions d ≡ sessions = ap m.sessions (sym (same_at devs i d d h e)) ∙ ((now.serves.each i d).sessions ∙ alike i d c.loop-i-test.true) in
-        rw drops (All-append (IsDone sessions) (added o0 o) xs (now.done sessions alike) (subst (λ u. All (IsDone u) xs) own got.done));
+          let own : m.sessions d ≡ sessions = ap m.sessions (sym (same_at devs i d d h e)) ∙ ((now.serves.each i d).sessions ∙ alike i d c.loop-i-test.true) in
+          rw drops (All-append (IsDone sessions) (added o0 o) xs (now.done sessions alike) (subst (λ u. All (IsDone u) xs) own got.done));
       serves = serves_more m g.met.D.Driver.follows_itself g.met.D.Driver.follows_on w devs0 devs i d d' c.loop-i-test.true h e goes now.serves;
       stalled = λ less. up_to (λ a b. 0 < length (held b) → Rose (stalls a) (stalls b)) devs0 devs i d' h (now.stalled (omega (arith, less)))
-        (λ x some. rose_later (stalls (slice_index_or devs0 i x)) (stalls d) (stalls d')
+          (λ x some. rose_later (stalls (slice_index_or devs0 i x)) (stalls d) (stalls d')
           (subst (λ y. stalls (slice_index_or devs0 i x) ≤ stalls y) (same_at devs i d x h e) (now.serves.each i x).took.stalls)
           (gave_less (map entry_of xs) (held d') (held d) k (c.args.asked - n) (room_of o) (Rose (stalls d) (stalls d')) got.held (length-map xs entry_of ∙ len)
-            (omega (arith, cap, now.count, c.requires.room)) (omega (arith, less)) got.cause some));
+          (omega (arith, cap, now.count, c.requires.room)) (omega (arith, less)) got.cause some));
       len = now.len;
     }

@@ -31,7 +31,7 @@ returns-in-Some-clause-in_order g c o =
     let p = held_set held devs c.args.workers c.args.turn c.index_mut-worker.result.now c.enqueue_through.new.worker (numbered (r.first + length r.slots) (map entry_of ops)) c.requires.turn t c.index_mut-worker.ensures.value c.enqueue_through.ensures.held in
     let len : length r.slots + length ops ≤ 2 ^ 64 = omega (arith, length-take n c.args.burst.now.ops, c.enqueue_through.ensures.offered, sound.1, sound.2) in
     rw (c.in-Some.is, c.enqueue_through.ensures.ring)
-      (pending_more r (flat_map held (take c.args.workers devs)) (flat_map held (take c.args.workers (set devs c.args.turn c.enqueue_through.new.worker))) ops len sound.0 p)
+    (pending_more r (flat_map held (take c.args.workers devs)) (flat_map held (take c.args.workers (set devs c.args.turn c.enqueue_through.new.worker))) ops len sound.0 p)
 
 pub returns-in-Some-clause-pending : goal.returns-in-Some-clause-pending
 returns-in-Some-clause-pending g c =
@@ -48,9 +48,12 @@ returns-in-Some-clause-sound g c =
     let sound : IsSound (Some r) (together g.D.Driver c.args.workers devs) = rw c.in-Some.is at c.requires.sound in
     let t : c.args.turn < length devs = omega (arith, c.args.devs.now.ok.0) in
     let p = held_set held devs c.args.workers c.args.turn c.index_mut-worker.result.now c.enqueue_through.new.worker (numbered (r.first + length r.slots) (map entry_of ops)) c.requires.turn t c.index_mut-worker.ensures.value c.enqueue_through.ensures.held in
-    rw c.enqueue_through.ensures.ring
-      (holds_more r (flat_map held (take c.args.workers devs)) (flat_map held (take c.args.workers (set devs c.args.turn c.enqueue_through.new.worker))) ops sound.0 p,
-       omega (arith, length-append r.slots (map opened ops), length-map ops opened, length-take n c.args.burst.now.ops, c.enqueue_through.ensures.offered, sound.1), sound.2, sound.3)
+    rw c.enqueue_through.ensures.ring (
+      holds_more r (flat_map held (take c.args.workers devs)) (flat_map held (take c.args.workers (set devs c.args.turn c.enqueue_through.new.worker))) ops sound.0 p,
+      omega (arith, length-append r.slots (map opened ops), length-map ops opened, length-take n c.args.burst.now.ops, c.enqueue_through.ensures.offered, sound.1),
+      sound.2,
+      sound.3,
+    )
 
 pub returns-in-Some-clause-answered : goal.returns-in-Some-clause-answered
 returns-in-Some-clause-answered g c sessions done =
@@ -77,7 +80,7 @@ returns-in-Some-clause-serves g c =
     rw c.in-Some.is (record {
       len = length-set devs c.args.turn d';
       each = each_at g.D.Driver g.met.D.Driver.follows_itself devs c.args.turn (renumbered next (front_log n b)) d d' t c.index_mut-worker.ensures.value
-        (goes_in g.D.Driver d d' n xs (renumbered next (front_log n b)) e.follows e.stalls e.sessions e.room e.within e.taken e.log e.held len count);
+          (goes_in g.D.Driver d d' n xs (renumbered next (front_log n b)) e.follows e.stalls e.sessions e.room e.within e.taken e.log e.held len count);
       others = drop-set-lt c.args.workers devs c.args.turn d' c.requires.turn;
     })
 
@@ -86,7 +89,7 @@ returns-in-None-clause-pending g c =
     let devs = c.args.devs.now.items in
     let t : c.args.turn < length devs = omega (arith, c.args.devs.now.ok.0) in
     rw c.in-None.is
-      (held_set g.D.Driver.held devs c.args.workers c.args.turn c.index_mut-worker.result.now c.enqueue_burst.new.self (front c.enqueue_burst.result c.args.burst.now) c.requires.turn t c.index_mut-worker.ensures.value c.enqueue_burst.ensures.held)
+    (held_set g.D.Driver.held devs c.args.workers c.args.turn c.index_mut-worker.result.now c.enqueue_burst.new.self (front c.enqueue_burst.result c.args.burst.now) c.requires.turn t c.index_mut-worker.ensures.value c.enqueue_burst.ensures.held)
 
 pub returns-in-None-clause-serves : goal.returns-in-None-clause-serves
 returns-in-None-clause-serves g c =
@@ -105,7 +108,7 @@ returns-in-None-clause-serves g c =
     rw c.in-None.is (record {
       len = length-set devs c.args.turn d';
       each = each_at g.D.Driver g.met.D.Driver.follows_itself devs c.args.turn (front_log n b) d d' t c.index_mut-worker.ensures.value
-        (goes_in g.D.Driver d d' n (front n b) (front_log n b) e.follows e.stalls e.sessions e.room
+          (goes_in g.D.Driver d d' n (front n b) (front_log n b) e.follows e.stalls e.sessions e.room
           (λ r k. let l = e.admitted (min (length ls) r) (g.met.D.Driver.room_admits d r ls k) in omega (arith, l))
           (ap (λ (x : Stats). x.enqueued) e.stats) e.log e.held len count);
       others = drop-set-lt c.args.workers devs c.args.turn d' c.requires.turn;
@@ -125,8 +128,9 @@ returns-in-None-clause-cause g c x r e =
     let told = g.met.D.Driver.room_admits d r ls k in
     let len : length ls ≡ min most (length b.ops) = length-map (take most b.ops) (λ op. data_len_of op.spec) ∙ length-take most b.ops in
     let most_is = rw c.in-None.is at c.places_for-most.ensures in
-    let l = c.enqueue_burst.ensures.admitted (min (length ls) r) told in
-    (omega (arith, l),
-     λ less.
-       let fewer = rw c.in-None.is at less in
-       rw (is, get_or-set_same devs c.args.turn d' x t) (c.enqueue_burst.ensures.cause (min (length ls) r) told (omega (arith, fewer, len, most_is))))
+    let l = c.enqueue_burst.ensures.admitted (min (length ls) r) told in (
+      omega (arith, l),
+      λ less.
+          let fewer = rw c.in-None.is at less in
+          rw (is, get_or-set_same devs c.args.turn d' x t) (c.enqueue_burst.ensures.cause (min (length ls) r) told (omega (arith, fewer, len, most_is))),
+    )

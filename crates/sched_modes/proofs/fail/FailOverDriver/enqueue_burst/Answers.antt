@@ -19,7 +19,7 @@ returns-clause-does g c =
     let within : p.workers ≤ length p.devs.items = omega (arith, p.sizes.1, p.devs.ok.0) in
     let serves = subst (λ (w : ℕ). Serves g.D.Driver (only_for 1 (told (places p1.ring) (front_log c.offer_to-second.result c.offer_to-first.new.burst))) w p1.devs.items p2.devs.items) e.went.workers k.went.devs in
     rw (k.went.workers, e.went.workers) (fail_offers g.D.Driver g.met.D.Driver.follows_on p.workers p.devs.items p1.devs.items p2.devs.items 0 (places p.ring) (places p1.ring) (places p2.ring) c.args.burst.now c.offer_to-first.new.burst
-      c.args.max c.offer_to-first.result c.offer_to-second.result within s.two e.rest e.offered e.went.devs e.ring e.cause e.same k.offered serves k.ring k.cause k.same)
+    c.args.max c.offer_to-first.result c.offer_to-second.result within s.two e.rest e.offered e.went.devs e.ring e.cause e.same k.offered serves k.ring k.cause k.same)
 
 pub offer_to-second-requires-clause-fresh : goal.offer_to-second-requires-clause-fresh
 offer_to-second-requires-clause-fresh g c =
@@ -31,15 +31,15 @@ returns-clause-held g c =
     let b = c.args.burst.now in let m = c.offer_to-first.result in let n = c.offer_to-second.result in
     let p0 = c.args.self.now.pool in let p1 = c.offer_to-first.new.self in let p2 = c.offer_to-second.new.self in
     pending_two (pending_in p0) (pending_in p1) (pending_in p2) (front m b) (front n c.offer_to-first.new.burst) (front (m + n) b)
-      (front_two m n b c.offer_to-first.new.burst c.offer_to-first.ensures.rest) c.offer_to-first.ensures.pending c.offer_to-second.ensures.pending
+    (front_two m n b c.offer_to-first.new.burst c.offer_to-first.ensures.rest) c.offer_to-first.ensures.pending c.offer_to-second.ensures.pending
 
 pub returns-clause-in_order : goal.returns-clause-in_order
 returns-clause-in_order g c o =
     let b = c.args.burst.now in let m = c.offer_to-first.result in let n = c.offer_to-second.result in
     let p0 = c.args.self.now.pool in let p1 = c.offer_to-first.new.self in let p2 = c.offer_to-second.new.self in
     order_two (pending_in p0) (pending_in p1) (pending_in p2) (front m b) (front n c.offer_to-first.new.burst) (front (m + n) b)
-      (front_two m n b c.offer_to-first.new.burst c.offer_to-first.ensures.rest) (c.offer_to-first.ensures.in_order o)
-      (c.offer_to-second.ensures.in_order (order_kept p0.ring p1.ring c.offer_to-first.ensures.went.cap o))
+    (front_two m n b c.offer_to-first.new.burst c.offer_to-first.ensures.rest) (c.offer_to-first.ensures.in_order o)
+    (c.offer_to-second.ensures.in_order (order_kept p0.ring p1.ring c.offer_to-first.ensures.went.cap o))
 
 pub returns-clause-admitted : goal.returns-clause-admitted
 returns-clause-admitted g c x e =
@@ -66,5 +66,5 @@ returns-clause-follows g c =
       parts = λ i. only_for 0 xs i ++ only_for 1 ys i;
       went = record { workers = went.workers; threshold = went.threshold; sessions = went.sessions; cap = went.cap; devs = went.devs };
       enqueued = (let sum = sum_two p.workers m n xs ys s.two m_is n_is in
-        omega (arith, sum, ap (λ (x : Stats). x.enqueued) c.count_enqueue.ensures, ap (λ (x : Stats). x.enqueued) e.stats, ap (λ (x : Stats). x.enqueued) k.stats));
+          omega (arith, sum, ap (λ (x : Stats). x.enqueued) c.count_enqueue.ensures, ap (λ (x : Stats). x.enqueued) e.stats, ap (λ (x : Stats). x.enqueued) k.stats));
     }

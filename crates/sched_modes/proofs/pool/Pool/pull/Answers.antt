@@ -18,7 +18,7 @@ returns-clause-does g c t =
     let within : p.workers ≤ length p.devs.items = omega (arith, p.sizes.1, p.devs.ok.0) in
     let asked : c.min-asked.result ≡ min c.args.max (room_of c.args.out.now) = omega (arith, c.min-asked.ensures, c.room.ensures) in
     subst (λ (x : ℕ). DrawsFrom (record { turn = t; workers = map (account m) (take p.workers p.devs.items); ring = places p.ring }) x c.draw-n.result (record { turn = t; workers = map (account m) (take p.workers c.draw-n.new.devs.items); ring = places c.draw-n.new.ring })) asked
-      (draws_from m p.workers t c.min-asked.result c.draw-n.result p.devs.items c.draw-n.new.devs.items p.ring c.draw-n.new.ring within e.serves e.ring e.stalled e.sound e.front)
+    (draws_from m p.workers t c.min-asked.result c.draw-n.result p.devs.items c.draw-n.new.devs.items p.ring c.draw-n.new.ring within e.serves e.ring e.stalled e.sound e.front)
 
 pub returns-clause-stalls : goal.returns-clause-stalls
 returns-clause-stalls g c =
@@ -52,7 +52,7 @@ returns-clause-stop g c =
     let es = together g.D.Driver p.workers c.draw-n.new.devs.items in
     let asked : c.min-asked.result ≡ min c.args.max (room_of c.args.out.now) = omega (arith, c.min-asked.ensures, c.room.ensures) in
     rw c.why.ensures (subst (λ (x : ℕ). StopIs (stop_after c.draw-n.result c.min-asked.result c.held_by-left.result) c.draw-n.result x (pending_with g.D.Driver c.draw-n.new.ring p.workers c.draw-n.new.devs.items) es) asked
-      (stop_is c.draw-n.new.ring es c.draw-n.result c.min-asked.result c.held_by-left.result e.within c.held_by-left.ensures e.sound e.front))
+    (stop_is c.draw-n.new.ring es c.draw-n.result c.min-asked.result c.held_by-left.result e.within c.held_by-left.ensures e.sound e.front))
 
 pub returns-clause-front : goal.returns-clause-front
 returns-clause-front g c less some =

@@ -15,7 +15,7 @@ returns-clause-does g c =
     let within : p.workers ≤ length p.devs.items = omega (arith, p.sizes.1, p.devs.ok.0) in
     let turn = rw e.went.workers at c.next_turn-self.ensures.turn in
     rw e.went.workers (round_offers g.D.Driver p.workers p.devs.items c.offer_to-n.new.self.devs.items s.turn c.next_turn-self.result (places p.ring) (places c.offer_to-n.new.self.ring) c.args.burst.now c.args.max c.offer_to-n.result
-      within s.within e.offered e.went.devs e.ring e.cause (turn ∙ ap (λ x. turned p.workers s.turn x) (omega (arith, c.min-offered.ensures, c.len.ensures))))
+    within s.within e.offered e.went.devs e.ring e.cause (turn ∙ ap (λ x. turned p.workers s.turn x) (omega (arith, c.min-offered.ensures, c.len.ensures))))
 
 pub returns-clause-admitted : goal.returns-clause-admitted
 returns-clause-admitted g c x e =
@@ -36,6 +36,6 @@ returns-clause-follows g c =
       parts = only_for s.turn ops;
       went = record { workers = e.went.workers; threshold = e.went.threshold; sessions = e.went.sessions; cap = e.went.cap; devs = e.went.devs };
       enqueued =
-        (let sum = total_only p.workers s.turn ops s.within ∙ (length_told (places p.ring) (front_log n b) ∙ length_front_log n b) in
-         omega (arith, sum, (returns-clause-does g c).most, length_front_log c.args.max b, free_le (places p.ring) (length (front_log c.args.max b)), ap (λ (x : Stats). x.enqueued) c.count_enqueue.ensures, ap (λ (x : Stats). x.enqueued) e.stats));
+          (let sum = total_only p.workers s.turn ops s.within ∙ (length_told (places p.ring) (front_log n b) ∙ length_front_log n b) in
+          omega (arith, sum, (returns-clause-does g c).most, length_front_log c.args.max b, free_le (places p.ring) (length (front_log c.args.max b)), ap (λ (x : Stats). x.enqueued) c.count_enqueue.ensures, ap (λ (x : Stats). x.enqueued) e.stats));
     }

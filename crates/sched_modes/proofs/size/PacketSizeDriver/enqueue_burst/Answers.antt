@@ -35,6 +35,6 @@ returns-clause-follows g c =
       parts = λ k. of_size p.threshold k ops;
       went = record { workers = went.workers; threshold = went.threshold; sessions = went.sessions; cap = went.cap; devs = went.devs };
       enqueued =
-        (let sum : total p.workers (λ k. length (of_size p.threshold k ops)) ≡ offered n b = rw s.two (total_sizes p.threshold ops ∙ (length_told (places p.ring) (front_log n b) ∙ length_front_log n b)) in
-         omega (arith, sum, e.offered, free_le (places p.ring) (offered c.args.max b), ap (λ (x : Stats). x.enqueued) c.count_enqueue.ensures, ap (λ (x : Stats). x.enqueued) e.dealt.stats));
+          (let sum : total p.workers (λ k. length (of_size p.threshold k ops)) ≡ offered n b = rw s.two (total_sizes p.threshold ops ∙ (length_told (places p.ring) (front_log n b) ∙ length_front_log n b)) in
+          omega (arith, sum, e.offered, free_le (places p.ring) (offered c.args.max b), ap (λ (x : Stats). x.enqueued) c.count_enqueue.ensures, ap (λ (x : Stats). x.enqueued) e.dealt.stats));
     }

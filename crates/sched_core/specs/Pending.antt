@@ -74,6 +74,11 @@ abbrev pub SlotDone : {C : Type 0} → List (List Transform) → Slot C → Type
 SlotDone sessions (Open saved) = Unit {0}
 SlotDone sessions (Settled op) = IsDone sessions op
 
+-- Whatever else the workers hold, these entries came back from them and went into the ring, and what is pending is the same.
+abbrev pub ComesBack : {C : Type 0} → List (Entry C) → Ring (Slot C) → Ring (Slot C) → Type 0
+ComesBack {C} came old new =
+    (held : List (Entry C)) → IsSound (Some old) (held ++ came) → IsSound (Some new) held × (pending_of (Some new) held ≡ pending_of (Some old) (held ++ came))
+
 abbrev pub RingDone : {C : Type 0} → List (List Transform) → Option (Ring (Slot C)) → Type 0
 RingDone sessions None = Unit {0}
 RingDone sessions (Some ring) = All (SlotDone sessions) ring.slots

@@ -1,5 +1,5 @@
 //! The stopped scheduler.
-ghost use Rattle.std.specs.Prelude.{◌≡◌, ◌≢◌, ◌↔◌, ◌+◌, ◌<◌, ◌≤◌, IsTrue, length, slice_index_or, vec_len, IsErr, IsErrOf, IfOk, OnOk, OnErr};
+ghost use Rattle.std.specs.Prelude.{◌≡◌, ◌↔◌, ◌+◌, ◌<◌, ◌≤◌, IsTrue, length, vec_len, IsErr, IsErrOf, IfOk, OnOk, OnErr};
 ghost use Rattle.std.specs.Arc.{arc_value};
 ghost use Rattle.sched_core.specs.Mode.{most_workers};
 ghost use Rattle.sched_core.specs.Stopped.{is_threshold};
@@ -69,7 +69,7 @@ impl<D> Model for Scheduler<D> {
 }
 
 impl<D> Scheduler<D> {
-    ghost use Rattle.sched_core.specs.Stopped.{AreAlike, made_of};
+    ghost use Rattle.sched_core.specs.Stopped.{AreAlike, HasNext, NextDiffers, made_of};
 
     /// None of the devices is attached, and the threshold is 128.
     pub fn new(
@@ -99,9 +99,10 @@ impl<D> Scheduler<D> {
         D: Driver<C>,
         ensures too_many { IsErrOf result TooManyWorkers ↔ (self.old.workers ≡ most_workers self.old.mode) }
         ensures no_device { IsErrOf result NoDevice ↔ (self.old.workers < most_workers self.old.mode) × (self.old.workers ≡ length self.old.devs) }
-        ensures differ { IsErrOf result SessionsDiffer ↔ (self.old.workers < most_workers self.old.mode) × (self.old.workers < length self.old.devs) × ((d : D) → D.sessions (slice_index_or self.old.devs self.old.workers d) ≢ self.old.sessions) }
+        ensures differ { IsErrOf result SessionsDiffer ↔ HasNext self.old × NextDiffers D.sessions self.old }
         ensures refused { OnErr result (self.new ≡ self.old) }
-        ensures attached { IfOk result (λ place. (place ≡ self.old.workers) × (self.new ≡ record self.old { workers = place + 1 })) }
+        ensures place { IfOk result (λ place. (place ≡ self.old.workers) × (place < length self.old.devs)) }
+        ensures attached { OnOk result (self.new ≡ record self.old { workers = self.old.workers + 1 }) }
         ensures alike { OnOk result (AreAlike D.sessions self.old → AreAlike D.sessions self.new) }
     {
         let place = self.parts.workers;

@@ -64,9 +64,11 @@ pub fn enqueue_through<C: Drop, D: Driver<C>>(
     ensures sessions { D.sessions worker.new ≡ D.sessions worker.old }
     ensures follows { D.follows worker.old worker.new }
     ensures within { (r : ℕ) → D.room worker.old ≡ Some r → result ≤ r }
-    ensures cause { (r : ℕ) → D.room worker.old ≡ Some r → result < min (min (offered max burst.old) (ring.old.cap - length ring.old.slots)) r → Rose (D.stalls worker.old) (D.stalls worker.new) }
+    ensures cause { (r : ℕ) → D.room worker.old ≡ Some r
+        → result < min (min (offered max burst.old) (ring.old.cap - length ring.old.slots)) r → Rose (D.stalls worker.old) (D.stalls worker.new) }
     ensures room { D.room worker.new ≡ option_map (λ r. r - result) (D.room worker.old) }
-    ensures log { D.log worker.new ≡ option_map (λ l. l ++ renumbered (number ring.old (length ring.old.slots)) (front_log result burst.old)) (D.log worker.old) }
+    ensures log { D.log worker.new
+        ≡ option_map (λ l. l ++ renumbered (number ring.old (length ring.old.slots)) (front_log result burst.old)) (D.log worker.old) }
     ensures taken { (D.stats worker.new).enqueued ≡ capped ((D.stats worker.old).enqueued + result) }
 {
     let offered = max.min(burst.len()).min(ring.free());

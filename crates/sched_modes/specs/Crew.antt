@@ -139,8 +139,10 @@ pub record SizeOffers (threshold : ℕ) (old : Crew) (ops : List LogEntry) (n : 
   pub most : n ≤ free old.ring (length ops)
   pub ring : Grew n old.ring new.ring
   pub two : length old.workers ≡ 2
-  pub rooms : (k r : ℕ) → k < 2 → (worker old k).room ≡ Some r → (share threshold k (lengths (take n ops)) ≤ r) × ((worker new k).room ≡ Some (r - share threshold k (lengths (take n ops))))
-  pub cause : n < free old.ring (length ops) → (e : LogEntry) (r : ℕ) → slice_get ops n ≡ Some e → (worker new (size_worker threshold e.data_len)).room ≡ Some r → 0 < r
+  pub rooms : (k r : ℕ) → k < 2 → (worker old k).room ≡ Some r
+      → (share threshold k (lengths (take n ops)) ≤ r) × ((worker new k).room ≡ Some (r - share threshold k (lengths (take n ops))))
+  pub cause : n < free old.ring (length ops) → (e : LogEntry) (r : ℕ) → slice_get ops n ≡ Some e
+      → (worker new (size_worker threshold e.data_len)).room ≡ Some r → 0 < r
       → Rose (worker old (size_worker threshold e.data_len)).stalls (worker new (size_worker threshold e.data_len)).stalls
 
 -- fail-over: worker 0 takes the first, and worker 1 the next

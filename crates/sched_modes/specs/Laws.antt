@@ -34,22 +34,26 @@ took_two xs ys a b c p q = record {
 pub goes_same : {C D : Type 0} (m : Ghosts D C) → ((a : D) → m.follows a a) → (a : D) → Goes m [] a a
 goes_same m same a = record { on = same a; sessions = refl; took = took_same _ }
 
-pub goes_two : {C D : Type 0} (m : Ghosts D C) → ((a b c : D) → m.follows a b → m.follows b c → m.follows a c) → (xs ys : List LogEntry) (a b c : D) → Goes m xs a b → Goes m ys b c → Goes m (xs ++ ys) a c
+pub goes_two : {C D : Type 0} (m : Ghosts D C) → ((a b c : D) → m.follows a b → m.follows b c → m.follows a c) → (xs ys : List LogEntry) (a b c : D)
+    → Goes m xs a b → Goes m ys b c → Goes m (xs ++ ys) a c
 goes_two m on xs ys a b c p q = record { on = on a b c p.on q.on; sessions = q.sessions ∙ p.sessions; took = took_two xs ys _ _ _ p.took q.took }
 
-pub each_two : {C D : Type 0} (m : Ghosts D C) → ((a b c : D) → m.follows a b → m.follows b c → m.follows a c) → (f g : ℕ → List LogEntry) (xs ys zs : List D) → EachGoes m f xs ys → EachGoes m g ys zs → EachGoes m (λ k. f k ++ g k) xs zs
+pub each_two : {C D : Type 0} (m : Ghosts D C) → ((a b c : D) → m.follows a b → m.follows b c → m.follows a c) → (f g : ℕ
+    → List LogEntry) (xs ys zs : List D) → EachGoes m f xs ys → EachGoes m g ys zs → EachGoes m (λ k. f k ++ g k) xs zs
 each_two m on f g xs ys zs p q k d = goes_two m on (f k) (g k) (slice_index_or xs k d) (slice_index_or ys k d) (slice_index_or zs k d) (p k d) (q k d)
 
 pub serves_same : {C D : Type 0} (m : Ghosts D C) → ((a : D) → m.follows a a) → (w : ℕ) (devs : List D) → Serves m (λ k. []) w devs devs
 serves_same m same w devs = record { len = refl; each = λ k d. goes_same m same (slice_index_or devs k d); others = refl }
 
-pub serves_two : {C D : Type 0} (m : Ghosts D C) → ((a b c : D) → m.follows a b → m.follows b c → m.follows a c) → (f g : ℕ → List LogEntry) (w : ℕ) (xs ys zs : List D) → Serves m f w xs ys → Serves m g w ys zs → Serves m (λ k. f k ++ g k) w xs zs
+pub serves_two : {C D : Type 0} (m : Ghosts D C) → ((a b c : D) → m.follows a b → m.follows b c → m.follows a c) → (f g : ℕ
+    → List LogEntry) (w : ℕ) (xs ys zs : List D) → Serves m f w xs ys → Serves m g w ys zs → Serves m (λ k. f k ++ g k) w xs zs
 serves_two m on f g w xs ys zs p q = record { len = q.len ∙ p.len; each = each_two m on f g xs ys zs p.each q.each; others = q.others ∙ p.others }
 
 pub went_same : {C D : Type 0} {m : Ghosts D C} → ((a : D) → m.follows a a) → (p : Pool C D m) → WentOn (λ k. []) p p
 went_same {m = m} same p = record { workers = refl; threshold = refl; sessions = refl; cap = refl; devs = serves_same m same p.workers p.devs.items }
 
-pub went_two : {C D : Type 0} {m : Ghosts D C} → ((a b c : D) → m.follows a b → m.follows b c → m.follows a c) → (f g : ℕ → List LogEntry) (p q r : Pool C D m) → WentOn f p q → WentOn g q r → WentOn (λ k. f k ++ g k) p r
+pub went_two : {C D : Type 0} {m : Ghosts D C} → ((a b c : D) → m.follows a b → m.follows b c → m.follows a c) → (f g : ℕ
+    → List LogEntry) (p q r : Pool C D m) → WentOn f p q → WentOn g q r → WentOn (λ k. f k ++ g k) p r
 went_two {m = m} on f g p q r x y = record {
   workers = y.workers ∙ x.workers;
   threshold = y.threshold ∙ x.threshold;
@@ -69,7 +73,8 @@ total_joined (suc w) f g = let r = total_joined w f g in omega (arith, r, length
 pub follows_same : {C D : Type 0} {m : Ghosts D C} → ((a : D) → m.follows a a) → (p : Pool C D m) → Follows p p
 follows_same same p = record { parts = λ k. []; went = went_same same p; enqueued = (let r = total_none p.workers in omega (arith, r)) }
 
-pub follows_two : {C D : Type 0} {m : Ghosts D C} → ((a b c : D) → m.follows a b → m.follows b c → m.follows a c) → (p q r : Pool C D m) → Follows p q → Follows q r → Follows p r
+pub follows_two : {C D : Type 0} {m : Ghosts D C} → ((a b c : D) → m.follows a b → m.follows b c → m.follows a c) → (p q r : Pool C D m) → Follows p q
+    → Follows q r → Follows p r
 follows_two on p q r x y = record {
   parts = λ k. x.parts k ++ y.parts k;
   went = went_two on x.parts y.parts p q r x.went y.went;

@@ -62,9 +62,9 @@ offers_by PacketSize threshold = SizeOffers threshold
 offers_by FailOver threshold = FailOffers
 offers_by MultiCore threshold = λ old ops n new. ⊥
 
--- no worker holds anything
-abbrev pub AreIdle : {C D : Type 0} → Ghosts D C → Stopped D → Type 0
-AreIdle {D = D} m s = (k : ℕ) (d : D) → k < s.workers → m.held (slice_index_or s.devs k d) ≡ []
+-- the first w hold nothing
+abbrev pub AreIdle : {C D : Type 0} → Ghosts D C → ℕ → List D → Type 0
+AreIdle {D = D} m w devs = (k : ℕ) (d : D) → k < w → m.held (slice_index_or devs k d) ≡ []
 
 abbrev pub first_places : Bool → ℕ → Option Places
 first_places ordering cap = if ordering then Some (record { cap = cap; slots = 0; next = 0 }) else None

@@ -1,11 +1,11 @@
 -- Workers with an order ring or without.
-use Rattle.std.specs.Prelude.{◌≡◌, ℕ, ◌+◌, ◌%◌, ◌^◌, ◌<◌, ◌≤◌, ◌++◌, ◌==◌, if◌then◌else◌, [], List, map, length, take, drop, Option, None, Some, option_map, slice_index_or}
+use Rattle.std.specs.Prelude.{◌≡◌, ℕ, ◌+◌, ◌-◌, ◌%◌, ◌^◌, ◌<◌, ◌≤◌, ◌++◌, ◌==◌, if◌then◌else◌, [], List, map, length, take, drop, Option, None, Some, option_map, slice_index_or, IsPermutation}
 use Rattle.std.specs.List.{flat_map}
 use Rattle.std.proofs.Props.{props}
 use Rattle.crypto_model.specs.Counts.{Rose, capped}
 use Rattle.crypto_model.specs.Process.{Transform}
 use Rattle.crypto_op.specs.declared.op.Op.{Op}
-use Rattle.crypto_op.specs.Op.{Entry}
+use Rattle.crypto_op.specs.Op.{Entry, entry_of}
 use Rattle.dev_core.specs.declared.driver.Driver.{Ghosts}
 use Rattle.dev_core.specs.declared.driver.LogEntry.{LogEntry}
 use Rattle.sched_core.specs.declared.ring.Front.TheVariants as Front
@@ -13,7 +13,7 @@ use Rattle.sched_core.specs.declared.ring.Slot.{Slot}
 use Rattle.sched_core.specs.declared.ring.Slot.TheVariants as Slot
 use Rattle.sched_core.specs.Pending.{pending_of, IsSound, RingDone, SlotDone}
 use Rattle.sched_core.specs.Ring.{Ring, front_of, number}
-use Rattle.sched_modes.specs.Crew.{Account, Places, Took, account}
+use Rattle.sched_modes.specs.Crew.{Account, IsCause, Places, Took, account}
 use Rattle.sched_modes.specs.declared.pull.Stop.{Stop}
 use Rattle.sched_modes.specs.declared.pull.Stop.TheVariants.{Max, Empty, NotYet}
 
@@ -53,7 +53,8 @@ SameBut {D} t old new = (k : ℕ) (d : D) → (k ≡ t → ⊥) → slice_index_
 
 -- each of the first w that still holds something stalled
 abbrev pub EachStalled : {C D : Type 0} → Ghosts D C → ℕ → List D → List D → Type 0
-EachStalled {D = D} m w old new = (k : ℕ) (d : D) → k < w → 0 < length (m.held (slice_index_or new k d)) → Rose (m.stalls (slice_index_or old k d)) (m.stalls (slice_index_or new k d))
+EachStalled {D = D} m w old new = (k : ℕ) (d : D) → k < w → 0 < length (m.held (slice_index_or new k d))
+    → Rose (m.stalls (slice_index_or old k d)) (m.stalls (slice_index_or new k d))
 
 -- there is room for what a ring holds
 abbrev pub RingFits : {C : Type 0} → Option (Ring (Slot C)) → ℕ → Type 0
@@ -73,6 +74,30 @@ FrontOpen (Some ring) = front_of ring ≡ Front.Open ring.first
 -- these operations were taken from the ring's front
 abbrev pub Taken : {C : Type 0} → Ring (Slot C) → Ring (Slot C) → List (Op C) → Type 0
 Taken old new ops = (old.slots ≡ map Slot.Settled ops ++ new.slots) × (new.cap ≡ old.cap) × (new.first ≡ (old.first + length ops) % 2 ^ 64)
+
+-- what worker t told of its room fell by n
+abbrev pub RoomFell : {C D : Type 0} → Ghosts D C → (t n : ℕ) → List D → List D → Type 0
+RoomFell {D = D} m t n old new = (d : D) → m.room (slice_index_or new t d) ≡ option_map (λ r. r - n) (m.room (slice_index_or old t d))
+
+-- why worker t took n of so many
+abbrev pub HasCause : {C D : Type 0} → Ghosts D C → (t offered n : ℕ) → List D → List D → Type 0
+HasCause {D = D} m t offered n old new = (d : D) → IsCause offered n (account m (slice_index_or old t d)) (account m (slice_index_or new t d))
+
+-- these entries went in, and all are pending now
+abbrev pub WentIn : {C : Type 0} → (news before now : List (Entry C)) → Type 0
+WentIn news before now = IsPermutation (before ++ news) now
+
+-- they stand behind the others
+abbrev pub WentInOrder : {C : Type 0} → (news before now : List (Entry C)) → Type 0
+WentInOrder news before now = now ≡ before ++ news
+
+-- of what was pending before these operations came out, and the rest is pending
+abbrev pub CameOut : {C : Type 0} → List (Op C) → (before now : List (Entry C)) → Type 0
+CameOut ops before now = IsPermutation (map entry_of ops ++ now) before
+
+-- they were its front
+abbrev pub CameInOrder : {C : Type 0} → List (Op C) → (before now : List (Entry C)) → Type 0
+CameInOrder ops before now = before ≡ map entry_of ops ++ now
 
 -- a ring is as it begins
 abbrev pub IsNewRing : {C : Type 0} → ℕ → Option (Ring (Slot C)) → Type 0

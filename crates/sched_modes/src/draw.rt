@@ -1,14 +1,14 @@
 //! What comes out of the workers.
-ghost use Rattle.std.specs.Prelude.{◌≡◌, ◌+◌, ◌^◌, ◌<◌, ◌≤◌, ◌++◌, [], List, length, map, vec_len, Some, IsPermutation};
+ghost use Rattle.std.specs.Prelude.{◌≡◌, ◌+◌, ◌^◌, ◌<◌, ◌≤◌, [], List, length, vec_len, Some};
 ghost use Rattle.std.specs.List.{All};
 ghost use Rattle.crypto_model.specs.Counts.{capped};
 ghost use Rattle.crypto_model.specs.Process.{Transform};
-ghost use Rattle.crypto_op.specs.Op.{IsDone, entry_of};
+ghost use Rattle.crypto_op.specs.Op.{IsDone};
 ghost use Rattle.dev_core.specs.Burst.{room_of, added, with_ops};
 ghost use Rattle.sched_core.specs.Pending.{pending_of, IsSound, SlotDone, RingDone, InOrder};
 ghost use Rattle.sched_core.specs.Stopped.{EachAlike};
 ghost use Rattle.sched_modes.specs.Crew.{Kept};
-ghost use Rattle.sched_modes.specs.Workers.{Serves, EachStalled, RingFits, NotReady, Taken, together, pending_with, places, cap_of};
+ghost use Rattle.sched_modes.specs.Workers.{CameInOrder, CameOut, EachStalled, NotReady, RingFits, Serves, Taken, together, pending_with, places, cap_of};
 
 use crypto_op::OpBurst;
 use dev_core::Driver;
@@ -26,8 +26,10 @@ fn collect<C: Drop, D: Driver<C>>(
     requires empty { scratch.old.ops ≡ [] }
     requires fits { ring.old.cap ≤ scratch.old.cap }
     ensures sound { IsSound (Some ring.new) (together D.Driver workers devs.new.items) }
-    ensures pending { pending_of (Some ring.new) (together D.Driver workers devs.new.items) ≡ pending_of (Some ring.old) (together D.Driver workers devs.old.items) }
-    ensures done { (sessions : List (List Transform)) → EachAlike D.sessions sessions workers devs.old.items → All (SlotDone sessions) ring.old.slots → All (SlotDone sessions) ring.new.slots }
+    ensures pending { pending_of (Some ring.new) (together D.Driver workers devs.new.items)
+        ≡ pending_of (Some ring.old) (together D.Driver workers devs.old.items) }
+    ensures done { (sessions : List (List Transform))
+        → EachAlike D.sessions sessions workers devs.old.items → All (SlotDone sessions) ring.old.slots → All (SlotDone sessions) ring.new.slots }
     ensures ring { (ring.new.cap ≡ ring.old.cap) × (ring.new.first ≡ ring.old.first) × (length ring.new.slots ≡ length ring.old.slots) }
     ensures scratch { scratch.new ≡ scratch.old }
     ensures serves { Serves D.Driver (λ k. []) workers devs.old.items devs.new.items }
@@ -79,7 +81,7 @@ fn gather<C, D: Driver<C>>(
     ensures within { result ≤ asked }
     ensures kept { out.new ≡ with_ops (added out.old out.new) out.old }
     ensures count { length out.new.ops ≡ length out.old.ops + result }
-    ensures held { IsPermutation (map entry_of (added out.old out.new) ++ together D.Driver workers devs.new.items) (together D.Driver workers devs.old.items) }
+    ensures held { CameOut (added out.old out.new) (together D.Driver workers devs.old.items) (together D.Driver workers devs.new.items) }
     ensures done { (sessions : List (List Transform)) → EachAlike D.sessions sessions workers devs.old.items → All (IsDone sessions) (added out.old out.new) }
     ensures serves { Serves D.Driver (λ k. []) workers devs.old.items devs.new.items }
     ensures stalled { result < asked → EachStalled D.Driver workers devs.old.items devs.new.items }
@@ -111,10 +113,14 @@ pub(crate) fn draw<C: Drop, D: Driver<C>>(
     ensures within { result ≤ asked }
     ensures kept { out.new ≡ with_ops (added out.old out.new) out.old }
     ensures count { length out.new.ops ≡ length out.old.ops + result }
-    ensures pending { IsPermutation (map entry_of (added out.old out.new) ++ pending_with D.Driver ring.new workers devs.new.items) (pending_with D.Driver ring.old workers devs.old.items) }
-    ensures in_order { InOrder ring.old → pending_with D.Driver ring.old workers devs.old.items ≡ map entry_of (added out.old out.new) ++ pending_with D.Driver ring.new workers devs.new.items }
-    ensures done { (sessions : List (List Transform)) → EachAlike D.sessions sessions workers devs.old.items → RingDone sessions ring.old → All (IsDone sessions) (added out.old out.new) }
-    ensures answered { (sessions : List (List Transform)) → EachAlike D.sessions sessions workers devs.old.items → RingDone sessions ring.old → RingDone sessions ring.new }
+    ensures pending { CameOut (added out.old out.new)
+        (pending_with D.Driver ring.old workers devs.old.items) (pending_with D.Driver ring.new workers devs.new.items) }
+    ensures in_order { InOrder ring.old → CameInOrder (added out.old out.new)
+        (pending_with D.Driver ring.old workers devs.old.items) (pending_with D.Driver ring.new workers devs.new.items) }
+    ensures done { (sessions : List (List Transform))
+        → EachAlike D.sessions sessions workers devs.old.items → RingDone sessions ring.old → All (IsDone sessions) (added out.old out.new) }
+    ensures answered { (sessions : List (List Transform))
+        → EachAlike D.sessions sessions workers devs.old.items → RingDone sessions ring.old → RingDone sessions ring.new }
     ensures sound { IsSound ring.new (together D.Driver workers devs.new.items) }
     ensures fits { RingFits ring.new scratch.old.cap }
     ensures scratch { scratch.new ≡ scratch.old }

@@ -49,7 +49,7 @@ pub fn start<C: Drop, D: Driver<C>>(
 ) -> Result<Running<C, D>, StartRefused<D>>
     requires mode { s.mode ≢ MultiCore }
     requires ring { (1 ≤ ring) × (ring ≤ 4096) }
-    requires idle { AreIdle D.Driver s }
+    requires idle { AreIdle D.Driver s.workers s.devs }
     requires alike { AreAlike D.sessions s }
     ensures too_few { s.workers < least_workers s.mode → result ≡ Err (refused.TooFewWorkers s) }
     ensures no_memory { least_workers s.mode ≤ s.workers → OnErr result (result ≡ Err (refused.OutOfMemory s)) }

@@ -1,12 +1,12 @@
 //! A burst that one worker is offered.
-ghost use Rattle.std.specs.Prelude.{◌≡◌, ℕ, ◌+◌, ◌-◌, ◌<◌, ◌≤◌, ◌++◌, List, Some, length, take, option_map, vec_len, slice_index_or, IsPermutation};
+ghost use Rattle.std.specs.Prelude.{◌≡◌, ◌<◌, ◌≤◌, List, take, vec_len};
 ghost use Rattle.std.specs.List.{All};
 ghost use Rattle.crypto_model.specs.Process.{Transform};
 ghost use Rattle.crypto_op.specs.Op.{IsFresh};
 ghost use Rattle.dev_core.specs.Burst.{offered, rest_of, front, front_log};
 ghost use Rattle.sched_core.specs.Pending.{IsSound, RingDone, InOrder};
-ghost use Rattle.sched_modes.specs.Crew.{IsCause, Grew, account, free, only_for, told};
-ghost use Rattle.sched_modes.specs.Workers.{Serves, SameBut, together, pending_with, places, cap_of};
+ghost use Rattle.sched_modes.specs.Crew.{Grew, free, only_for, told};
+ghost use Rattle.sched_modes.specs.Workers.{HasCause, RoomFell, SameBut, Serves, WentIn, WentInOrder, together, pending_with, places, cap_of};
 
 use crypto_op::OpBurst;
 use dev_core::Driver;
@@ -39,16 +39,18 @@ pub(crate) fn offer<C: Drop, D: Driver<C>>(
     requires sound { IsSound ring.old (together D.Driver workers devs.old.items) }
     ensures offered { result ≤ free (places ring.old) (offered max burst.old) }
     ensures rest { burst.new ≡ rest_of result burst.old }
-    ensures pending { IsPermutation (pending_with D.Driver ring.old workers devs.old.items ++ front result burst.old) (pending_with D.Driver ring.new workers devs.new.items) }
-    ensures in_order { InOrder ring.old → pending_with D.Driver ring.new workers devs.new.items ≡ pending_with D.Driver ring.old workers devs.old.items ++ front result burst.old }
+    ensures pending { WentIn (front result burst.old)
+        (pending_with D.Driver ring.old workers devs.old.items) (pending_with D.Driver ring.new workers devs.new.items) }
+    ensures in_order { InOrder ring.old → WentInOrder (front result burst.old)
+        (pending_with D.Driver ring.old workers devs.old.items) (pending_with D.Driver ring.new workers devs.new.items) }
     ensures sound { IsSound ring.new (together D.Driver workers devs.new.items) }
     ensures answered { (sessions : List (List Transform)) → RingDone sessions ring.old → RingDone sessions ring.new }
     ensures cap { cap_of ring.new ≡ cap_of ring.old }
     ensures ring { Grew result (places ring.old) (places ring.new) }
     ensures serves { Serves D.Driver (only_for turn (told (places ring.old) (front_log result burst.old))) workers devs.old.items devs.new.items }
     ensures same { SameBut turn devs.old.items devs.new.items }
-    ensures room { (d : D) → D.room (slice_index_or devs.new.items turn d) ≡ option_map (λ r. r - result) (D.room (slice_index_or devs.old.items turn d)) }
-    ensures cause { (d : D) → IsCause (free (places ring.old) (offered max burst.old)) result (account D.Driver (slice_index_or devs.old.items turn d)) (account D.Driver (slice_index_or devs.new.items turn d)) }
+    ensures room { RoomFell D.Driver turn result devs.old.items devs.new.items }
+    ensures cause { HasCause D.Driver turn (free (places ring.old) (offered max burst.old)) result devs.old.items devs.new.items }
     ensures len { vec_len devs.new ≡ vec_len devs.old }
 {
     let most = places_for(ring, burst, max);

@@ -48,17 +48,17 @@ fn why(n: usize, asked: usize, left: usize) -> Stop
 }
 
 impl<C: Drop, D: Driver<C>> Pool<C, D> {
-    ghost use Rattle.std.specs.Prelude.{ℕ, ◌+◌, ◌-◌, ◌++◌, min, length, map, take, option_map, is_some, slice_index_or, IsPermutation};
+    ghost use Rattle.std.specs.Prelude.{ℕ, ◌+◌, min, length, take, is_some, slice_index_or};
     ghost use Rattle.std.specs.List.{All};
     ghost use Rattle.crypto_model.specs.Counts.{capped, Rose};
-    ghost use Rattle.crypto_op.specs.Op.{IsDone, IsFresh, entry_of};
+    ghost use Rattle.crypto_op.specs.Op.{IsDone, IsFresh};
     ghost use Rattle.dev_core.specs.Burst.{offered, rest_of, room_of, front, front_log, added, with_ops};
     ghost use Rattle.dev_core.specs.Stats.{no_stats, after_dequeue};
     ghost use Rattle.sched_core.specs.Pending.{InOrder};
     ghost use Rattle.sched_core.specs.Mode.{most_workers};
     ghost use Rattle.sched_core.specs.Stopped.{AreAlike, made_of};
-    ghost use Rattle.sched_modes.specs.Crew.{DrawsFrom, Grew, IsCause, account, free, only_for, told};
-    ghost use Rattle.sched_modes.specs.Workers.{FrontOpen, IsNewRing, SameBut, StopIs, places};
+    ghost use Rattle.sched_modes.specs.Crew.{DrawsFrom, Grew, free, only_for, told};
+    ghost use Rattle.sched_modes.specs.Workers.{CameInOrder, CameOut, FrontOpen, HasCause, IsNewRing, RoomFell, SameBut, StopIs, WentIn, WentInOrder, places};
     ghost use Rattle.sched_modes.specs.Pool.{Follows, WentOn, crew, held_in, pending_in, stalls_in, stopped};
 
     /// Workers that hold nothing, with an empty ring or none.
@@ -102,13 +102,13 @@ impl<C: Drop, D: Driver<C>> Pool<C, D> {
         requires fresh { All IsFresh (take max burst.old.ops) }
         ensures offered { result ≤ free (places self.old.ring) (offered max burst.old) }
         ensures rest { burst.new ≡ rest_of result burst.old }
-        ensures pending { IsPermutation (pending_in self.old ++ front result burst.old) (pending_in self.new) }
-        ensures in_order { InOrder self.old.ring → pending_in self.new ≡ pending_in self.old ++ front result burst.old }
+        ensures pending { WentIn (front result burst.old) (pending_in self.old) (pending_in self.new) }
+        ensures in_order { InOrder self.old.ring → WentInOrder (front result burst.old) (pending_in self.old) (pending_in self.new) }
         ensures ring { Grew result (places self.old.ring) (places self.new.ring) }
         ensures went { WentOn (only_for turn (told (places self.old.ring) (front_log result burst.old))) self.old self.new }
         ensures same { SameBut turn self.old.devs.items self.new.devs.items }
-        ensures room { (d : D) → D.room (slice_index_or self.new.devs.items turn d) ≡ option_map (λ r. r - result) (D.room (slice_index_or self.old.devs.items turn d)) }
-        ensures cause { (d : D) → IsCause (free (places self.old.ring) (offered max burst.old)) result (account D.Driver (slice_index_or self.old.devs.items turn d)) (account D.Driver (slice_index_or self.new.devs.items turn d)) }
+        ensures room { RoomFell D.Driver turn result self.old.devs.items self.new.devs.items }
+        ensures cause { HasCause D.Driver turn (free (places self.old.ring) (offered max burst.old)) result self.old.devs.items self.new.devs.items }
         ensures stats { self.new.stats ≡ self.old.stats }
     {
         offer(
@@ -126,8 +126,8 @@ impl<C: Drop, D: Driver<C>> Pool<C, D> {
         ensures within { result.n ≤ min max (room_of out.old) }
         ensures kept { out.new ≡ with_ops (added out.old out.new) out.old }
         ensures count { length out.new.ops ≡ length out.old.ops + result.n }
-        ensures pending { IsPermutation (map entry_of (added out.old out.new) ++ pending_in self.new) (pending_in self.old) }
-        ensures in_order { InOrder self.old.ring → pending_in self.old ≡ map entry_of (added out.old out.new) ++ pending_in self.new }
+        ensures pending { CameOut (added out.old out.new) (pending_in self.old) (pending_in self.new) }
+        ensures in_order { InOrder self.old.ring → CameInOrder (added out.old out.new) (pending_in self.old) (pending_in self.new) }
         ensures done { All (IsDone (arc_value self.old.sessions)) (added out.old out.new) }
         ensures stop { StopIs result.stop result.n (min max (room_of out.old)) (pending_in self.new) (held_in self.new) }
         ensures front { result.n < min max (room_of out.old) → 0 < length (held_in self.new) → FrontOpen self.new.ring }

@@ -22,11 +22,11 @@ pub struct Pending<C, D: Driver<C>> {
 }
 
 impl<C: Drop, D: Driver<C>> Running<C, D> {
-    ghost use Rattle.std.specs.Prelude.{◌≡◌, ◌+◌, ◌<◌, ◌≤◌, ◌++◌, [], min, length, map, IfOk, IfErr, IsPermutation};
+    ghost use Rattle.std.specs.Prelude.{◌≡◌, ◌+◌, ◌<◌, ◌≤◌, [], min, length, IfOk, IfErr};
     ghost use Rattle.std.specs.Arc.{arc_value};
     ghost use Rattle.std.specs.List.{All};
     ghost use Rattle.crypto_model.specs.Counts.{capped};
-    ghost use Rattle.crypto_op.specs.Op.{IsDone, entry_of};
+    ghost use Rattle.crypto_op.specs.Op.{IsDone};
     ghost use Rattle.dev_core.specs.Burst.{room_of, added, with_ops};
     ghost use Rattle.dev_core.specs.Stats.{after_dequeue};
     ghost use Rattle.sched_core.specs.Pending.{InOrder, IsSound, RingDone};
@@ -34,7 +34,7 @@ impl<C: Drop, D: Driver<C>> Running<C, D> {
     ghost use Rattle.sched_modes.specs.Crew.{DrawsFrom};
     ghost use Rattle.sched_modes.specs.Pool.{Follows};
     ghost use Rattle.sched_modes.specs.Running.{AreIdle, at_work, crew_of, mode_of, pending, pool_of, stopped_of};
-    ghost use Rattle.sched_modes.specs.Workers.{FrontOpen, StopIs};
+    ghost use Rattle.sched_modes.specs.Workers.{CameInOrder, CameOut, FrontOpen, StopIs};
 
     /// Moves answered operations behind those of `out`, at most `max`, and says why no more came. With ordering
     /// on they come in the order in which they were accepted.
@@ -42,8 +42,8 @@ impl<C: Drop, D: Driver<C>> Running<C, D> {
         ensures within { result.n ≤ min max (room_of out.old) }
         ensures kept { out.new ≡ with_ops (added out.old out.new) out.old }
         ensures count { length out.new.ops ≡ length out.old.ops + result.n }
-        ensures pending { IsPermutation (map entry_of (added out.old out.new) ++ pending self.new) (pending self.old) }
-        ensures in_order { InOrder (pool_of self.old).ring → pending self.old ≡ map entry_of (added out.old out.new) ++ pending self.new }
+        ensures pending { CameOut (added out.old out.new) (pending self.old) (pending self.new) }
+        ensures in_order { InOrder (pool_of self.old).ring → CameInOrder (added out.old out.new) (pending self.old) (pending self.new) }
         ensures done { All (IsDone (arc_value (pool_of self.old).sessions)) (added out.old out.new) }
         ensures stop { StopIs result.stop result.n (min max (room_of out.old)) (pending self.new) (at_work self.new) }
         ensures front { result.n < min max (room_of out.old) → 0 < length (at_work self.new) → FrontOpen (pool_of self.new).ring }
@@ -78,7 +78,7 @@ impl<C: Drop, D: Driver<C>> Running<C, D> {
     pub fn stop(self) -> Result<Scheduler<D>, Pending<C, D>>
         ensures stopped { IfOk result (λ s. (pending self ≡ []) × (s ≡ stopped_of self)) }
         ensures alike { IfOk result (λ s. AreAlike D.sessions s) }
-        ensures idle { IfOk result (λ s. AreIdle D.Driver s) }
+        ensures idle { IfOk result (λ s. AreIdle D.Driver s.workers s.devs) }
         ensures refused { IfErr result (λ p. (0 < p.n) × (p.n ≡ capped (length (pending self))) × (p.running ≡ self)) }
     {
         let n = self.pending();

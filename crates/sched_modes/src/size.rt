@@ -1,10 +1,10 @@
 //! Long data for one worker, and short data for another.
-ghost use Rattle.std.specs.Prelude.{◌≡◌, ℕ, ◌+◌, ◌<◌, ◌≤◌, Some, length, take, slice_get};
+ghost use Rattle.std.specs.Prelude.{◌≡◌, ℕ, ◌+◌, ◌<◌, ◌≤◌, length, take};
 ghost use Rattle.std.specs.List.{All};
-ghost use Rattle.crypto_op.specs.Op.{IsFresh, data_len_of};
+ghost use Rattle.crypto_op.specs.Op.{IsFresh};
 ghost use Rattle.dev_core.specs.Burst.{offered};
 ghost use Rattle.sched_modes.specs.Crew.{free, size_worker};
-ghost use Rattle.sched_modes.specs.Sizing.{DealtBySize, HasStalled};
+ghost use Rattle.sched_modes.specs.Sizing.{DealtBySize, HasStalledFor};
 ghost use Rattle.sched_modes.specs.Workers.{places};
 
 use crate::Pool;
@@ -33,8 +33,9 @@ fn offer_next<C: Drop, D: Driver<C>>(pool: &mut Pool<C, D>, burst: &mut OpBurst<
     requires some { 0 < length burst.old.ops }
     requires fresh { All IsFresh (take 1 burst.old.ops) }
     ensures one { result ≤ free (places pool.old.ring) 1 }
-    ensures dealt { (old : _) (all : _) (n : ℕ) → n ≤ length all.ops → DealtBySize old all n pool.old burst.old → DealtBySize old all (n + result) pool.new burst.new }
-    ensures cause { result ≡ 0 → 0 < free (places pool.old.ring) 1 → (op : _) → slice_get burst.old.ops 0 ≡ Some op → HasStalled D.Driver (size_worker pool.old.threshold (data_len_of op.spec)) pool.old.devs.items pool.new.devs.items }
+    ensures dealt { (old : _) (all : _) (n : ℕ) → n ≤ length all.ops
+        → DealtBySize old all n pool.old burst.old → DealtBySize old all (n + result) pool.new burst.new }
+    ensures cause { result ≡ 0 → 0 < free (places pool.old.ring) 1 → HasStalledFor 0 burst.old pool.old pool.new }
 {
     let worker = worker_for(pool.threshold, burst.get(0).data_len());
     pool.offer_to(worker, burst, 1)
@@ -46,7 +47,7 @@ fn deal<C: Drop, D: Driver<C>>(pool: &mut Pool<C, D>, burst: &mut OpBurst<C>, ma
     requires fresh { All IsFresh (take max burst.old.ops) }
     ensures offered { result ≤ free (places pool.old.ring) (offered max burst.old) }
     ensures dealt { DealtBySize pool.old burst.old result pool.new burst.new }
-    ensures cause { result < free (places pool.old.ring) (offered max burst.old) → (op : _) → slice_get burst.old.ops result ≡ Some op → HasStalled D.Driver (size_worker pool.old.threshold (data_len_of op.spec)) pool.old.devs.items pool.new.devs.items }
+    ensures cause { result < free (places pool.old.ring) (offered max burst.old) → HasStalledFor result burst.old pool.old pool.new }
 {
     let offered = max.min(burst.len());
     let mut n = 0;

@@ -33,12 +33,9 @@ loop-i-preserved g c =
       cap = c.in-Some.ensures.cap ∙ now.cap;
     }
 
-pub returns-clause-sound : goal.returns-clause-sound
-returns-clause-sound g c held sound =
-    let none : length c.loop-i.burst.ops ≡ 0 = omega (arith, c.loop-i.invariant.left, c.loop-i-test.false, c.len-i-end.ensures) in
-    rw (none_behind held c.loop-i.burst.ops none) at (c.loop-i.invariant.sound held sound)
-
-pub returns-clause-pending : goal.returns-clause-pending
-returns-clause-pending g c held sound =
-    let none : length c.loop-i.burst.ops ≡ 0 = omega (arith, c.loop-i.invariant.left, c.loop-i-test.false, c.len-i-end.ensures) in
-    rw (none_behind held c.loop-i.burst.ops none) at (c.loop-i.invariant.pending held sound)
+pub returns-clause-back : goal.returns-clause-back
+returns-clause-back g c held sound =
+    let none : length c.loop-i.burst.ops ≡ 0 = omega (arith, c.loop-i.invariant.left, c.loop-i-test.false, c.len-i-end.ensures) in (
+      rw (none_behind held c.loop-i.burst.ops none) at (c.loop-i.invariant.sound held sound),
+      rw (none_behind held c.loop-i.burst.ops none) at (c.loop-i.invariant.pending held sound),
+    )

@@ -62,8 +62,8 @@ loop-i-preserved g c =
     let full : c.room-most.result ≡ o.cap = omega (arith, c.room-most.ensures, n0) in
     let goes : Goes m [] d d' = goes_out m d d' c.dequeue_burst.result (min c.room-most.result (room_of o)) (map entry_of o'.ops) got.follows got.stalls got.sessions got.room got.stats got.log p count in
     record {
-      sound = c.settle_all.ensures.sound es moved;
-      pending = c.settle_all.ensures.pending es moved ∙ (pending_moved r (es ++ map entry_of o'.ops) (together m w devs) back now.sound ∙ now.pending);
+      sound = (c.settle_all.ensures.back es moved).0;
+      pending = (c.settle_all.ensures.back es moved).1 ∙ (pending_moved r (es ++ map entry_of o'.ops) (together m w devs) back now.sound ∙ now.pending);
       done = λ sessions alike slots.
           let own : m.sessions d ≡ sessions = ap m.sessions (sym (same_at devs i d d h e)) ∙ ((now.serves.each i d).sessions ∙ alike i d c.loop-i-test.true) in
           let answers : All (IsDone sessions) o'.ops = rw (all_behind o o' none, own) at got.done in

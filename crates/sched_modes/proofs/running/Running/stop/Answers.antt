@@ -9,4 +9,4 @@ pub returns-then-n-eq0-clause-idle : goal.returns-then-n-eq0-clause-idle
 returns-then-n-eq0-clause-idle g c =
     let p = pool_of c.args.self in
     let none = nil_from_length (pending c.args.self) (omega (arith, c.pending-n.ensures.count, c.if-n-eq0.true)) in
-    subst (λ (s : Stopped _). AreIdle g.D.Driver s) (sym c.break_up.ensures.stopped) (all_idle p (omega (arith, p.sizes.1, p.devs.ok.0)) p.sound none)
+    subst (λ (s : Stopped _). AreIdle g.D.Driver s.workers s.devs) (sym c.break_up.ensures.stopped) (all_idle p (omega (arith, p.sizes.1, p.devs.ok.0)) p.sound none)

@@ -1,0 +1,17 @@
+pub mod Held
+pub mod Given
+pub mod Open
+pub mod Ahead
+pub mod Goings
+pub mod Numbered
+pub mod Crews
+pub mod Draws
+pub mod Bursts
+pub mod Turns
+pub mod Two
+pub mod Failing
+pub mod Sizes
+pub mod SizeStep
+pub mod Longest
+pub mod Sized
+pub mod Idle

@@ -1,16 +1,18 @@
 -- What the words behind the program's name ask for.
-use Rattle.std.specs.Prelude.{◌&&◌, ℕ, Bool, List, [], ◌∷◌, length, codes, Option, Some, None, Result, Ok, Err, bytes_eq, nat_le, if◌then◌else◌}
+use Rattle.std.specs.Prelude.{◌&&◌, ℕ, Bool, true, false, List, [], ◌∷◌, length, codes, Option, Some, None, Result, Ok, Err, bytes_eq, nat_le, if◌then◌else◌}
 use Rattle.std.specs.Char.{is_ascii_digit}
 use Rattle.std.specs.List.{list_all}
 use Rattle.std.specs.Str.Parse.{digits_value}
 use Rattle.command_words.specs.Quick.{key_of, salt_of}
 use Rattle.command_words.specs.Options.{Values, values_of}
-use Rattle.command_words.specs.Scheduler.{scheduler_of, workers_of}
-use Rattle.command_words.specs.declared.scheduler.SchedulerText.{SchedulerText}
+use Rattle.sched_core.specs.Text.{sched_of}
+use Rattle.sched_core.specs.declared.mode.Mode.{Mode}
+use Rattle.sched_core.specs.declared.mode.Mode.TheVariants.{MultiCore}
+use Rattle.sched_core.specs.declared.text.SchedText.{SchedText}
 
 pub data Asked : Type 0 where
   AsksQuick : (key salt : List ℕ) → Asked
-  AsksCrypt : (sessions : List ℕ) (burst : ℕ) → Asked
+  AsksCrypt : (scheduler : SchedText) (sessions : List ℕ) (burst : ℕ) → Asked
 
 -- the words are not legal, or their scheduler text is not, from this place on
 pub data Fault : Type 0 where
@@ -49,15 +51,20 @@ abbrev pub burst_of : Option (List ℕ) → Option ℕ
 burst_of None = Some 32
 burst_of (Some text) = burst_in text
 
--- the last rules: the scheduler text, and then that there is a device for each worker
-abbrev pub with_scheduler : Result SchedulerText ℕ → List ℕ → ℕ → ℕ → Result Asked Fault
+-- `crypt` runs on one thread
+abbrev pub is_on_one_thread : Mode → Bool
+is_on_one_thread MultiCore = false
+is_on_one_thread mode = true
+
+-- the last rules: the scheduler text, and then its mode, and that there is a device for each worker
+abbrev pub with_scheduler : Result SchedText ℕ → List ℕ → ℕ → ℕ → Result Asked Fault
 with_scheduler (Err at) sessions burst devices = Err (BadText at)
 with_scheduler (Ok text) sessions burst devices =
-    if nat_le (workers_of text) devices then Ok (AsksCrypt sessions burst) else Err NotLegal
+    if is_on_one_thread text.mode && nat_le text.workers devices then Ok (AsksCrypt text sessions burst) else Err NotLegal
 
 abbrev pub with_burst : Option ℕ → Values → ℕ → Result Asked Fault
 with_burst None values devices = Err NotLegal
-with_burst (Some burst) values devices = with_scheduler (scheduler_of values.vdev) values.sessions burst devices
+with_burst (Some burst) values devices = with_scheduler (sched_of values.vdev) values.sessions burst devices
 
 abbrev pub with_values : Option Values → ℕ → Result Asked Fault
 with_values None devices = Err NotLegal
@@ -74,5 +81,5 @@ asked (word ∷ rest) devices =
 
 -- the file of the sessions, where legal words name one
 abbrev pub sessions_of : Result Asked Fault → Option (List ℕ)
-sessions_of (Ok (AsksCrypt sessions burst)) = Some sessions
+sessions_of (Ok (AsksCrypt scheduler sessions burst)) = Some sessions
 sessions_of _ = None

@@ -1,5 +1,7 @@
 -- The code's answers, against what the words ask for.
-use Rattle.std.specs.Prelude.{◌≡◌, ◌≤◌, Result, Ok, Err}
+use Rattle.std.specs.Prelude.{◌≡◌, ◌≢◌, ◌≤◌, Result, Ok, Err}
+use Rattle.sched_core.specs.Text.{IsSchedulable}
+use Rattle.sched_core.specs.declared.mode.Mode.TheVariants.{MultiCore}
 use Rattle.command_words.specs.declared.quick.Quick.{Quick}
 use Rattle.command_words.specs.declared.crypt.Crypt.{Crypt}
 use Rattle.command_words.specs.declared.command.Command.{Command}
@@ -12,7 +14,7 @@ abbrev pub quick_view : Quick → Asked
 quick_view q = AsksQuick q.key q.salt
 
 abbrev pub crypt_view : Crypt → Asked
-crypt_view c = AsksCrypt c.sessions.now c.burst
+crypt_view c = AsksCrypt c.scheduler c.sessions.now c.burst
 
 abbrev pub command_view : Command → Asked
 command_view (command.Quick q) = quick_view q
@@ -33,10 +35,12 @@ abbrev pub Gives : Result Command WordsRefused → Result Asked Fault → Type 0
 Gives (Ok command) said = said ≡ Ok (command_view command)
 Gives (Err refused) said = Refuses refused said
 
--- from 1 to 256
-abbrev pub HasBurst : Crypt → Type 0
-HasBurst c = (1 ≤ c.burst) × (c.burst ≤ 256)
+-- A burst of 1 to 256, and a scheduler that can be made and runs on one thread.
+pub record IsLegal (c : Crypt) : Type 0 where
+  pub burst : (1 ≤ c.burst) × (c.burst ≤ 256)
+  pub schedulable : IsSchedulable c.scheduler
+  pub mode : c.scheduler.mode ≢ MultiCore
 
-abbrev pub HasBurstIfCrypt : Command → Type 0
-HasBurstIfCrypt (command.Quick q) = Unit {0}
-HasBurstIfCrypt (command.Crypt c) = HasBurst c
+abbrev pub IsLegalIfCrypt : Command → Type 0
+IsLegalIfCrypt (command.Quick q) = Unit {0}
+IsLegalIfCrypt (command.Crypt c) = IsLegal c

@@ -1,7 +1,7 @@
 //! What the words ask for.
 ghost use Rattle.std.specs.Prelude.{◌≡◌, IfOk, map, option_map, string_bytes};
 ghost use Rattle.command_words.specs.Asked.{asked, sessions_of};
-ghost use Rattle.command_words.specs.Gives.{Gives, HasBurstIfCrypt};
+ghost use Rattle.command_words.specs.Gives.{Gives, IsLegalIfCrypt};
 
 use crate::crypt::{Crypt, crypt_of};
 use crate::quick::{Quick, quick_of};
@@ -27,7 +27,7 @@ pub fn command_of<'a>(
     devices: usize,
 ) -> Result<Command<'a>, WordsRefused>
     ensures value { Gives result (asked (map string_bytes words.entry.now) devices) }
-    ensures burst { IfOk result HasBurstIfCrypt }
+    ensures legal { IfOk result IsLegalIfCrypt }
 {
     let [word, rest @ ..] = words else {
         return Err(WordsRefused::Usage);

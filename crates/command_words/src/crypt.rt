@@ -3,20 +3,20 @@ ghost use Rattle.std.specs.Prelude.{◌≡◌, ◌≤◌, IfOk, IfSome, map, opt
 ghost use Rattle.std.specs.Char.{is_ascii_digit};
 ghost use Rattle.std.specs.List.{list_all};
 ghost use Rattle.command_words.specs.Options.{options_view, values_of};
-ghost use Rattle.command_words.specs.Asked.{burst_in, burst_of, count_in, is_count, with_burst, with_values};
-ghost use Rattle.command_words.specs.Gives.{GivesCrypt, HasBurst};
+ghost use Rattle.command_words.specs.Asked.{burst_in, burst_of, count_in, is_count, is_on_one_thread, with_burst, with_values};
+ghost use Rattle.command_words.specs.Gives.{GivesCrypt, IsLegal};
 
 use crate::options::{Options, OptionsRefused, options_of};
 use crate::refused::WordsRefused;
-use crate::scheduler::SchedulerText;
+use sched_core::{Mode, SchedText};
 use std::alloc::Global;
 
 const USUAL_BURST: usize = 32;
 
-/// The workers, the file of their sessions, and how many packets make a burst, from 1 to 256.
+/// The scheduler, the file of the sessions, and how many operations make a burst, from 1 to 256.
 #[derive(Clone, Copy, Debug, PartialEq, Eq)]
 pub struct Crypt<'a> {
-    pub scheduler: SchedulerText,
+    pub scheduler: SchedText,
     pub sessions: &'a str,
     pub burst: usize,
 }
@@ -64,19 +64,25 @@ fn burst_of(text: Option<&str>) -> Option<usize>
     }
 }
 
+fn is_on_one_thread(mode: Mode) -> bool
+    ensures { result ≡ is_on_one_thread mode }
+{
+    !matches!(mode, Mode::MultiCore)
+}
+
 fn crypt_with<'a>(options: &Options<'a>, devices: usize) -> Result<Crypt<'a>, WordsRefused>
     ensures value { let values = options_view options.now
         in GivesCrypt result (with_burst (burst_of values.burst) values devices) }
-    ensures burst { IfOk result HasBurst }
+    ensures legal { IfOk result IsLegal }
 {
     let Some(burst) = burst_of(options.burst) else {
         return Err(WordsRefused::Usage);
     };
-    let scheduler = match SchedulerText::parse(options.vdev) {
+    let scheduler = match SchedText::parse(options.vdev) {
         Ok(scheduler) => scheduler,
         Err(bad) => return Err(WordsRefused::Vdev { at: bad.at }),
     };
-    if devices < scheduler.workers() {
+    if !is_on_one_thread(scheduler.mode) || devices < scheduler.workers {
         return Err(WordsRefused::Usage);
     }
     Ok(Crypt {
@@ -93,7 +99,7 @@ pub(crate) fn crypt_of<'a>(
     devices: usize,
 ) -> Result<Crypt<'a>, WordsRefused>
     ensures value { GivesCrypt result (with_values (values_of (map string_bytes words.entry.now)) devices) }
-    ensures burst { IfOk result HasBurst }
+    ensures legal { IfOk result IsLegal }
 {
     match options_of(alloc, words) {
         Ok(options) => crypt_with(&options, devices),

@@ -10,8 +10,8 @@
 //! come on top, in this order:
 //!
 //! 1. N has 1 to 10 decimal digits, with a value from 1 to 256. It is 32 where `--burst` is absent;
-//! 2. TEXT is a scheduler text. For now the one is `mode=round-robin,worker=plain`;
-//! 3. TEXT names no more workers than there are devices.
+//! 2. TEXT is a scheduler text, as `sched_core` reads it;
+//! 3. its mode is another than `multi-core`, and it names no more workers than there are devices.
 //!
 //! All other words are a fault of usage, help too, but a faulty TEXT is one of its own, told by its place.
 //!
@@ -27,13 +27,11 @@ mod crypt;
 mod options;
 mod quick;
 mod refused;
-mod scheduler;
 
 pub use command::{Command, command_of, sessions_path};
 pub use crypt::Crypt;
 pub use quick::Quick;
 pub use refused::WordsRefused;
-pub use scheduler::SchedulerText;
 
 #[cfg(test)]
 mod tests;

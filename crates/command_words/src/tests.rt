@@ -1,5 +1,7 @@
 use crate::{Command, WordsRefused, command_of, sessions_path};
 use aes_core::encrypt;
+use dev_core::Kind;
+use sched_core::Mode;
 use std::alloc::{AllocError, Global};
 use std::test::Fail;
 
@@ -74,6 +76,23 @@ fn the_words_of_crypt_are_read(rt: HostRuntime) -> Result<(), Fail> {
 }
 
 #[test]
+fn the_scheduler_text_is_read(rt: HostRuntime) -> Result<(), Fail> {
+    let alloc = rt.alloc();
+    let words = words_of(
+        alloc,
+        "crypt --sessions f --vdev mode=packet-size-distr,worker=lane,ordering=enable,worker=plain,mode_param=threshold:64",
+    )?;
+    let Ok(Command::Crypt(crypt)) = command_of(alloc, &words, 2) else {
+        return Err(Fail::from("refused"));
+    };
+    let text = crypt.scheduler;
+    assert_eq!(rt; (text.mode, text.workers), (Mode::PacketSize, 2));
+    assert_eq!(rt; (text.ordering, text.threshold), (true, 64));
+    assert_eq!(rt; (text.kinds[0], text.kinds[1]), (Kind::Lane, Kind::Plain));
+    Ok(())
+}
+
+#[test]
 fn other_words_of_crypt_are_refused(rt: HostRuntime) -> Result<(), Fail> {
     let alloc = rt.alloc();
     for (line, devices, refused) in [
@@ -87,7 +106,27 @@ fn other_words_of_crypt_are_refused(rt: HostRuntime) -> Result<(), Fail> {
         (
             "crypt --vdev mode=multi-core,worker=plain --sessions f",
             8,
-            WordsRefused::Vdev { at: 0 },
+            WordsRefused::Usage,
+        ),
+        (
+            "crypt --vdev mode=multi-core,worker --sessions f",
+            8,
+            WordsRefused::Vdev { at: 16 },
+        ),
+        (
+            "crypt --vdev mode=fail-over,worker=plain --sessions f",
+            8,
+            WordsRefused::Vdev { at: 27 },
+        ),
+        (
+            "crypt --vdev mode=round-robin,worker=plain,threshold=5 --sessions f",
+            0,
+            WordsRefused::Vdev { at: 30 },
+        ),
+        (
+            "crypt --vdev mode=fail-over,worker=plain,worker=plain --sessions f",
+            1,
+            WordsRefused::Usage,
         ),
         (
             "crypt --vdev= --sessions f",

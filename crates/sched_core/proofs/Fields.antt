@@ -2,8 +2,9 @@
 use Rattle.std.proofs.Common.{◌≡◌, ◌∙◌, ◌<◌, ◌≤◌, ◌+◌, ◌==◌, ℕ, zero, suc, List, [], ◌∷◌, length, take, drop, sym, ap, refl, arith, Option, Some, None, Result, Ok, Err, ne_eqb, subst}
 use Rattle.std.specs.Borrow.{Bor}
 use Rattle.sched_core.specs.declared.text.BadText.{BadText}
-use Rattle.std.specs.Prelude.{slice_index, option_and_then, MatchOption, MatchResult}
+use Rattle.std.specs.Prelude.{IfSome, true, unwrap_or, slice_index, option_and_then, MatchOption, MatchResult}
 use Rattle.std.specs.List.{slice_split}
+use Rattle.sched_core.specs.Stopped.{is_threshold}
 use Rattle.sched_core.specs.declared.field.Seen.{Seen}
 use Rattle.sched_core.specs.declared.field.Field.{Field}
 use Rattle.sched_core.specs.declared.text.SchedText.{SchedText}
@@ -59,3 +60,12 @@ at_some {X = X} o x P Q e h = subst (λ (r : Option X). MatchOption r P Q) e h
 pub whole : (r : Result SchedText BadText) (a b : Result SchedText ℕ) → a ≡ b → MatchResult r (λ x. a ≡ Ok x) (λ e. a ≡ Err e.at) → MatchResult r (λ x. b ≡ Ok x) (λ e. b ≡ Err e.at)
 whole (Ok x) a b e h = sym e ∙ h
 whole (Err x) a b e h = sym e ∙ h
+
+-- a threshold, or the usual one
+pub legal_or_usual : (o : Option ℕ) → IfSome o (λ n. is_threshold n ≡ true) → is_threshold (unwrap_or o 128) ≡ true
+unfolding lib.Count.ones
+legal_or_usual None h = refl
+legal_or_usual (Some n) h = h
+
+pub some_is : {X : Type 0} (P : X → Type 0) (o : Option X) (x : X) → o ≡ Some x → IfSome o P → P x
+some_is {X = X} P o x e h = subst (λ (r : Option X). IfSome r P) e h

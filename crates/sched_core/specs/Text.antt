@@ -1,9 +1,10 @@
 -- The scheduler text.
-use Rattle.std.specs.Prelude.{◌==◌, ◌||◌, ◌&&◌, ◌+◌, ◌≡◌, ℕ, Bool, true, false, not, List, [], ◌∷◌, length, take, drop, codes, Option, Some, None, Result, Ok, Err, is_some, is_none, unwrap_or, option_map, option_and_then, nat_le, nat_lt, bytes_eq, slice_set, if◌then◌else◌}
+use Rattle.std.specs.Prelude.{◌≤◌, IfSome, ◌==◌, ◌||◌, ◌&&◌, ◌+◌, ◌≡◌, ℕ, Bool, true, false, not, List, [], ◌∷◌, length, take, drop, codes, Option, Some, None, Result, Ok, Err, is_some, is_none, unwrap_or, option_map, option_and_then, nat_le, nat_lt, bytes_eq, slice_set, if◌then◌else◌}
 use Rattle.std.specs.Char.{is_ascii_digit}
 use Rattle.std.specs.List.{list_all, slice_split}
 use Rattle.std.specs.Option.{option_map_or}
 use Rattle.std.specs.Str.Parse.{digits_value}
+use Rattle.sched_core.specs.Mode.{least_workers, most_workers}
 use Rattle.sched_core.specs.Stopped.{is_threshold}
 use Rattle.sched_core.specs.declared.mode.Mode.{Mode}
 use Rattle.sched_core.specs.declared.mode.Mode.TheVariants.{RoundRobin, PacketSize, FailOver, MultiCore}
@@ -43,18 +44,14 @@ with_field s (field.Worker kind) =
 with_field s (field.Ordering on) = if is_some s.ordering then None else Some (record s { ordering = Some on })
 with_field s (field.Threshold n) = if is_some s.threshold then None else Some (record s { threshold = Some n })
 
-abbrev pub wants_two : Mode → Bool
-wants_two PacketSize = true
-wants_two FailOver = true
-wants_two mode = false
-
 abbrev pub takes_threshold : Mode → Bool
 takes_threshold PacketSize = true
 takes_threshold mode = false
 
--- with a mode and a worker, two of them where the mode wants two, and no threshold where it takes none
+-- as many workers as the mode may have, and no threshold where it takes none
 abbrev pub is_whole : Seen → Mode → Bool
-is_whole s mode = nat_lt 0 s.workers && ((not (wants_two mode) || s.workers == 2) && (not (is_some s.threshold) || takes_threshold mode))
+is_whole s mode =
+    nat_le (least_workers mode) s.workers && (nat_le s.workers (most_workers mode) && (not (is_some s.threshold) || takes_threshold mode))
 
 abbrev pub said : Seen → Mode → SchedText
 said s mode = record {
@@ -67,6 +64,22 @@ said s mode = record {
 
 abbrev pub finished : Seen → ℕ → Result SchedText ℕ
 finished s len = option_map_or (λ mode. if is_whole s mode then Ok (said s mode) else Err len) s.mode (Err len)
+
+-- the threshold of a field is a legal one
+abbrev pub IsLegalField : Field → Type 0
+IsLegalField (field.Threshold n) = is_threshold n ≡ true
+IsLegalField f = Unit {0}
+
+-- What is seen so far is legal, if not yet whole.
+pub record IsLegal (s : Seen) : Type 0 where
+  pub workers : s.workers ≤ 8
+  pub threshold : IfSome s.threshold (λ n. is_threshold n ≡ true)
+
+-- A scheduler can be made by it: as many workers as the mode may have, and a legal threshold.
+pub record IsSchedulable (x : SchedText) : Type 0 where
+  pub least : least_workers x.mode ≤ x.workers
+  pub most : x.workers ≤ most_workers x.mode
+  pub threshold : is_threshold x.threshold ≡ true
 
 abbrev pub field_then : Option Seen → ℕ → (Seen → Result SchedText ℕ) → Result SchedText ℕ
 field_then (Some s) at next = next s

@@ -1,10 +1,10 @@
 //! One field of a scheduler text.
-ghost use Rattle.std.specs.Prelude.{◌≡◌, ◌≤◌, IsTrue, length, drop, bytes_eq, option_and_then};
+ghost use Rattle.std.specs.Prelude.{◌≡◌, ◌≤◌, IfSome, IsTrue, true, length, drop, bytes_eq, option_and_then};
 ghost use Rattle.std.specs.Char.{is_ascii_digit};
 ghost use Rattle.std.specs.List.{list_all};
 ghost use Rattle.std.specs.Str.Parse.{digits_value};
 ghost use Rattle.sched_core.specs.Stopped.{is_threshold};
-ghost use Rattle.sched_core.specs.Text.{field_of, threshold_of, with_field};
+ghost use Rattle.sched_core.specs.Text.{IsLegal, IsLegalField, field_of, threshold_of, with_field};
 
 use crate::Mode;
 use crate::scheduler::allowed_threshold;
@@ -73,7 +73,8 @@ fn read_number(digits: &[u8]) -> u32
 
 #[tactic(auto, unfolding(crate::specs::Text::threshold_of))]
 fn read_threshold(digits: &[u8]) -> Option<u32>
-    ensures { result ≡ threshold_of digits.now }
+    ensures legal { IfSome result (λ n. is_threshold n ≡ true) }
+    ensures said { result ≡ threshold_of digits.now }
 {
     if !(1 <= digits.len() && digits.len() <= 6 && has_only_digits(digits)) {
         return None;
@@ -84,7 +85,8 @@ fn read_threshold(digits: &[u8]) -> Option<u32>
 
 #[tactic(auto, unfolding(crate::specs::Text::field_of))]
 fn read_field(text: &[u8]) -> Option<Field>
-    ensures { result ≡ field_of text.now }
+    ensures legal { IfSome result IsLegalField }
+    ensures said { result ≡ field_of text.now }
 {
     if is(text, "mode=round-robin") {
         return Some(Field::Mode(Mode::RoundRobin));
@@ -120,7 +122,8 @@ fn read_field(text: &[u8]) -> Option<Field>
 impl Seen {
     /// What is seen behind one field more.
     fn with(&self, field: Field) -> Option<Seen>
-        ensures { result ≡ with_field self.now field }
+        ensures legal { IsLegal self.now → IsLegalField field → IfSome result IsLegal }
+        ensures said { result ≡ with_field self.now field }
     {
         let mut next = *self;
         match field {
@@ -157,7 +160,8 @@ impl Seen {
     }
 
     pub(crate) fn with_text(&self, text: &[u8]) -> Option<Seen>
-        ensures { result ≡ option_and_then (with_field self.now) (field_of text.now) }
+        ensures legal { IsLegal self.now → IfSome result IsLegal }
+        ensures said { result ≡ option_and_then (with_field self.now) (field_of text.now) }
     {
         match read_field(text) {
             Some(field) => self.with(field),

@@ -1,6 +1,6 @@
 //! The scheduler text.
-ghost use Rattle.std.specs.Prelude.{◌≡◌, ◌≢◌, ◌<◌, ◌≤◌, ◌+◌, ℕ, [], ◌∷◌, Ok, Err, length, slice_index, MatchOption, MatchResult};
-ghost use Rattle.sched_core.specs.Text.{fields_of, finished, sched_of};
+ghost use Rattle.std.specs.Prelude.{◌≡◌, ◌≢◌, ◌<◌, ◌≤◌, ◌+◌, ℕ, [], ◌∷◌, Ok, Err, length, slice_index, IfOk, MatchOption, MatchResult};
+ghost use Rattle.sched_core.specs.Text.{IsLegal, IsSchedulable, fields_of, finished, sched_of};
 
 use crate::Mode;
 use crate::field::{Seen, behind};
@@ -32,7 +32,8 @@ impl SchedText {
     /// 262,144. A mode and a worker are wanted, and two workers by packet size and for fail-over. Ordering is
     /// off and the threshold is 128 where the text doesn't say.
     pub fn parse(text: &str) -> Result<SchedText, BadText>
-        ensures { MatchResult result (λ x. sched_of text.now ≡ Ok x) (λ e. sched_of text.now ≡ Err e.at) }
+        ensures schedulable { IfOk result IsSchedulable }
+        ensures said { MatchResult result (λ x. sched_of text.now ≡ Ok x) (λ e. sched_of text.now ≡ Err e.at) }
     {
         read(text.as_bytes())
     }
@@ -65,14 +66,17 @@ fn first_field(text: &[u8]) -> (&[u8], Option<&[u8]>)
 }
 
 fn finish(seen: &Seen, len: usize) -> Result<SchedText, BadText>
-    ensures { MatchResult result (λ x. finished seen.now len ≡ Ok x) (λ e. finished seen.now len ≡ Err e.at) }
+    requires { IsLegal seen.now }
+    ensures schedulable { IfOk result IsSchedulable }
+    ensures said { MatchResult result (λ x. finished seen.now len ≡ Ok x) (λ e. finished seen.now len ≡ Err e.at) }
 {
     let Some(mode) = seen.mode else {
         return Err(BadText { at: len });
     };
-    let pairs = matches!(mode, Mode::PacketSize | Mode::FailOver);
-    let sizes = matches!(mode, Mode::PacketSize);
-    if seen.workers == 0 || (pairs && seen.workers != 2) || (seen.threshold.is_some() && !sizes) {
+    if seen.workers < mode.least_workers() || mode.most_workers() < seen.workers {
+        return Err(BadText { at: len });
+    }
+    if seen.threshold.is_some() && !matches!(mode, Mode::PacketSize) {
         return Err(BadText { at: len });
     }
     Ok(SchedText {
@@ -85,7 +89,8 @@ fn finish(seen: &Seen, len: usize) -> Result<SchedText, BadText>
 }
 
 fn read(text: &[u8]) -> Result<SchedText, BadText>
-    ensures { MatchResult result (λ x. sched_of text.now ≡ Ok x) (λ e. sched_of text.now ≡ Err e.at) }
+    ensures schedulable { IfOk result IsSchedulable }
+    ensures said { MatchResult result (λ x. sched_of text.now ≡ Ok x) (λ e. sched_of text.now ≡ Err e.at) }
 {
     let mut seen = Seen {
         mode: None,

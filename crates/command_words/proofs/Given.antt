@@ -13,6 +13,7 @@ use Rattle.clap.specs.declared.builder.arg.Arg.{Arg}
 use Rattle.clap.specs.declared.builder.command.Command.{Command}
 use Rattle.clap.specs.declared.parser.matches.ArgMatches.{ArgMatches}
 use Rattle.clap.proofs.CallerLemmas.{required_in_chain}
+use Rattle.crypto_model.proofs.Both.{both}
 
 -- ---- names, by tests that compute
 
@@ -38,9 +39,6 @@ abbrev pub AreOptions : List Arg → List Text → Type 0
 AreOptions [] [] = Unit {0}
 AreOptions (a ∷ rest) (n ∷ ns) = IsOption a n × AreOptions rest ns
 AreOptions _ _ = ⊥
-
-both : (a b : Bool) → (a && b) ≡ true → (a ≡ true) × (b ≡ true)
-both a b e = (and-eq-true_iff a b).0 e
 
 is_equal : (x y : Text) → x ≡ y → bytes_eq x y ≡ true
 is_equal x y e = (bytes_eq-Decides x y).1 e

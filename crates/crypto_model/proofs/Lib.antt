@@ -7,3 +7,5 @@ pub mod BlockBits
 pub mod Vectors
 pub mod Processed
 pub mod Comparing
+pub mod Both
+pub mod HmacVectors

@@ -4,6 +4,7 @@ use Rattle.std.proofs.lemmas.List.{length-map, take-take}
 use Rattle.std.proofs.lemmas.List.Elements.{All-same, All-take}
 use Rattle.std.proofs.lemmas.Bool.Decides.{nat_tests}
 use Rattle.std.specs.List.{All}
+use Rattle.std.specs.Option.{ForSome}
 use Rattle.crypto_model.specs.Counts.{capped, Rose}
 use Rattle.crypto_op.specs.declared.op.Op.{Op}
 use Rattle.crypto_op.specs.Burst.{Burst}
@@ -35,3 +36,13 @@ cuts_after-least (Some l) most n cuts h = grind (arith, nat_tests)
 pub both-rise : (limit : Option ℕ) (n could cuts before now : ℕ) → before ≤ now → (n < least limit could → Rose before now) → n < could → Rose (capped (before + cuts)) (capped (now + cuts_after limit could cuts))
 both-rise None n could cuts before now grown rose less = let r = rose less in omega arith
 both-rise (Some l) n could cuts before now grown rose less = grind (arith, nat_tests)
+
+-- so many are at most the limit
+pub within-limit : (limit : Option ℕ) (most n : ℕ) → n ≤ least limit most → ForSome limit (λ l. n ≤ l)
+within-limit None most n h = λ l e. cc
+within-limit (Some k) most n h = λ l e. (let same : k ≡ l = cc in omega (arith, same))
+
+-- the limit of a number, and of what is there of it
+pub least-min : (limit : Option ℕ) (most there : ℕ) → min (least limit most) there ≡ least limit (min most there)
+least-min None most there = omega arith
+least-min (Some l) most there = omega arith

@@ -2,6 +2,7 @@ pub mod Burst
 pub mod Stats
 pub mod SetUp
 pub mod Limits
+pub mod Over
 pub mod Stall
 pub mod Log
 pub mod Calls

@@ -1,12 +1,15 @@
 -- What is known of a logging device.
-use Rattle.std.specs.Prelude.{◌≡◌, ℕ, ◌-◌, List, [], length}
+use Rattle.std.specs.Prelude.{◌≡◌, ℕ, ◌-◌, List, [], length, None, Some}
+use Rattle.dev_core.specs.Calls.{Call, Offers, Asks}
+use Rattle.dev_core.specs.Over.{DequeuesUpto, EnqueuesUpto}
+use Rattle.dev_core.specs.declared.driver.Driver.{Ghosts}
 use Rattle.dev_core.specs.declared.driver.LogEntry.{LogEntry}
 use Rattle.dev_core.specs.declared.stats.Stats.{Stats}
 use Rattle.dev_core.specs.Stats.{no_stats}
 use Rattle.dev_core.specs.declared.log.LogDriver.{LogDriver}
 
 abbrev pub inner_of : {D : Type 0} → LogDriver D → D
-inner_of d = d.inner
+inner_of d = d.over.inner
 
 -- how many entries it logs at most
 abbrev pub cap_of : {D : Type 0} → LogDriver D → ℕ
@@ -21,10 +24,10 @@ log_room_of d = cap_of d - length (log_of d)
 
 -- in how many calls the cap cut the number
 abbrev pub cuts_of : {D : Type 0} → LogDriver D → ℕ
-cuts_of d = d.cuts
+cuts_of d = d.over.cuts
 
 abbrev pub stats_of : {D : Type 0} → LogDriver D → Stats
-stats_of d = d.stats
+stats_of d = d.over.stats
 
 -- made over this device, with nothing logged and nothing counted
 pub record IsNew {D : Type 0} (inner : D) (cap : ℕ) (d : LogDriver D) : Type 0 where
@@ -33,3 +36,8 @@ pub record IsNew {D : Type 0} (inner : D) (cap : ℕ) (d : LogDriver D) : Type 0
   pub log : log_of d ≡ []
   pub cuts : cuts_of d ≡ 0
   pub stats : stats_of d ≡ no_stats
+
+-- What a call does: the room for entries is the limit of what goes in, and what comes out has none.
+abbrev pub Does : {C D : Type 0} → Ghosts D C → LogDriver D → Call → LogDriver D → Type 0
+Does m old (Offers ops n) new = EnqueuesUpto m (Some (log_room_of old)) ops n old.over new.over × (cap_of new ≡ cap_of old)
+Does m old (Asks most n) new = DequeuesUpto m None most n old.over new.over × (cap_of new ≡ cap_of old)

@@ -14,6 +14,7 @@ mod cuts;
 mod driver;
 mod limits;
 mod log;
+mod over;
 mod stall;
 mod stats;
 

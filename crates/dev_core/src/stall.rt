@@ -1,18 +1,13 @@
 //! A device that moves fewer operations than it could.
-ghost use Rattle.std.specs.Prelude.{◌≡◌, ◌+◌, ◌-◌, ◌<◌, ◌≤◌, ◌↔◌, ◌++◌, [], length, map, take, min, option_map, OnOk, OnErr, IsErrOf, IsPermutation};
-ghost use Rattle.std.specs.List.{All};
-ghost use Rattle.std.specs.Option.{ForSome};
+ghost use Rattle.std.specs.Prelude.{◌≡◌, ◌+◌, ◌<◌, ◌↔◌, [], length, option_map, OnOk, OnErr, IsErrOf};
 ghost use Rattle.std.specs.Arc.{arc_value};
-ghost use Rattle.crypto_model.specs.Counts.{capped, Rose};
-ghost use Rattle.crypto_op.specs.Op.{IsFresh, IsDone, entry_of};
+ghost use Rattle.crypto_model.specs.Counts.{capped};
 ghost use Rattle.dev_core.specs.declared.driver.SetUpRefused.TheVariants.{BadDepth, Busy};
-ghost use Rattle.dev_core.specs.Burst.{offered, lens, room_of, rest_of, front, front_log, added, with_ops};
-ghost use Rattle.dev_core.specs.Limits.{next_limit, counted, least, cuts_after};
 ghost use Rattle.dev_core.specs.SetUp.{IsDepth};
-ghost use Rattle.dev_core.specs.Stats.{no_stats, after_enqueue, after_dequeue};
+ghost use Rattle.dev_core.specs.Stats.{no_stats};
 
-use crate::cuts::{admitted, count_cut};
 use crate::limits::LimitedCalls;
+use crate::over::{Over, dequeue_upto, enqueue_upto, stalls_of};
 use crate::{Device, Driver, Kind, Limits, SetUpRefused, Stats};
 use crypto_op::OpBurst;
 use std::alloc::Global;
@@ -23,11 +18,9 @@ use sym_session::SessionTable;
 /// cuts the number that the call could move, the device stalls.
 #[derive(Drop)]
 pub struct StallDriver<D> {
-    inner: D,
+    over: Over<D>,
     enqueues: LimitedCalls,
     dequeues: LimitedCalls,
-    cuts: u64,
-    stats: Stats,
 }
 
 impl<D> StallDriver<D> {
@@ -42,7 +35,7 @@ impl<D> StallDriver<D> {
         ensures stats { stats_of result ≡ no_stats }
     {
         StallDriver {
-            inner,
+            over: Over::new(inner),
             enqueues: LimitedCalls {
                 limits: enqueue,
                 calls: 0,
@@ -51,8 +44,6 @@ impl<D> StallDriver<D> {
                 limits: dequeue,
                 calls: 0,
             },
-            cuts: 0,
-            stats: Stats::new(),
         }
     }
 
@@ -60,7 +51,7 @@ impl<D> StallDriver<D> {
     pub fn inner(&self) -> &D
         ensures { result.now ≡ inner_of self.now }
     {
-        &self.inner
+        &self.over.inner
     }
 
     /// Hands the device below back.
@@ -68,18 +59,16 @@ impl<D> StallDriver<D> {
         ensures { result ≡ inner_of self }
     {
         let StallDriver {
-            inner,
+            over,
             enqueues: _,
             dequeues: _,
-            cuts: _,
-            stats: _,
         } = self;
-        inner
+        over.into_inner()
     }
 }
 
 impl<C, D: Device<C>> Driver<C> for StallDriver<D> {
-    ghost use Rattle.dev_core.specs.Stall.{inner_of, enqueues_of, dequeues_of, cuts_of, stats_of};
+    ghost use Rattle.dev_core.specs.Stall.{Does, inner_of, cuts_of, stats_of};
 
     ghost held = { λ d. D.held (inner_of d) };
 
@@ -99,6 +88,8 @@ impl<C, D: Device<C>> Driver<C> for StallDriver<D> {
 
     ghost follows = { λ d e. D.follows (inner_of d) (inner_of e) };
 
+    ghost does = { λ d c e. Does D.Driver d c e };
+
     ghost room_admits = { λ d r ls e. D.room_admits (inner_of d) r ls e };
 
     ghost keeps_order = { λ d e p o. D.keeps_order (inner_of d) (inner_of e) p o };
@@ -107,86 +98,30 @@ impl<C, D: Device<C>> Driver<C> for StallDriver<D> {
 
     ghost follows_on = { λ d e f p q. D.follows_on (inner_of d) (inner_of e) (inner_of f) p q };
 
-    fn enqueue_burst(&mut self, burst: &mut OpBurst<C>, max: usize) -> usize
-        requires { All IsFresh (take max burst.old.ops) }
-        ensures offered { result ≤ offered max burst.old }
-        ensures rest { burst.new ≡ rest_of result burst.old }
-        ensures held { IsPermutation (D.held (inner_of self.old) ++ front result burst.old) (D.held (inner_of self.new)) }
-        ensures in_order { D.ordered (inner_of self.old) → D.held (inner_of self.new) ≡ D.held (inner_of self.old) ++ front result burst.old }
-        ensures admitted { ForSome (D.admits (inner_of self.old) (lens max burst.old)) (λ a. result ≤ a) }
-        ensures cause { ForSome (D.admits (inner_of self.old) (lens max burst.old)) (λ a. result < a → Rose (capped (D.stalls (inner_of self.old) + cuts_of self.old)) (capped (D.stalls (inner_of self.new) + cuts_of self.new))) }
-        ensures room { D.room (inner_of self.new) ≡ option_map (λ r. r - result) (D.room (inner_of self.old)) }
-        ensures stalls { capped (D.stalls (inner_of self.old) + cuts_of self.old) ≤ capped (D.stalls (inner_of self.new) + cuts_of self.new) }
-        ensures sessions { D.sessions (inner_of self.new) ≡ D.sessions (inner_of self.old) }
-        ensures stats { stats_of self.new ≡ after_enqueue (offered max burst.old) result (stats_of self.old) }
-        ensures log { D.log (inner_of self.new) ≡ option_map (λ l. l ++ front_log result burst.old) (D.log (inner_of self.old)) }
-        ensures follows { D.follows (inner_of self.old) (inner_of self.new) }
-
-        // A stall of its own exactly where the call's limit is below what the inner device admits.
-        ensures exact { ForSome (D.admits (inner_of self.old) (lens max burst.old)) (λ a. cuts_of self.new ≡ cuts_after (next_limit (enqueues_of self.old)) a (cuts_of self.old)) }
-        ensures limited { ForSome (next_limit (enqueues_of self.old)) (λ limit. result ≤ limit) }
-        ensures inner_cause { ForSome (D.admits (inner_of self.old) (lens max burst.old)) (λ a. result < least (next_limit (enqueues_of self.old)) a → Rose (D.stalls (inner_of self.old)) (D.stalls (inner_of self.new))) }
-        ensures inner_stalls { D.stalls (inner_of self.old) ≤ D.stalls (inner_of self.new) }
-        ensures inner_stats { D.stats (inner_of self.new) ≡ after_enqueue (least (next_limit (enqueues_of self.old)) (offered max burst.old)) result (D.stats (inner_of self.old)) }
-        ensures enqueues { enqueues_of self.new ≡ counted (enqueues_of self.old) }
-        ensures dequeues { dequeues_of self.new ≡ dequeues_of self.old }
-    {
-        let offered = max.min(burst.len());
-        let could = admitted(&self.inner, burst, max);
+    fn enqueue_burst(&mut self, burst: &mut OpBurst<C>, max: usize) -> usize {
         let most = self.enqueues.next(max);
-        self.cuts = count_cut(self.cuts, most, could);
-        let n = self.inner.enqueue_burst(burst, most);
-        self.stats.count_enqueue(offered, n);
-        n
+        enqueue_upto(&mut self.over, burst, max, most)
     }
 
-    fn dequeue_burst(&mut self, out: &mut OpBurst<C>, max: usize) -> usize
-        ensures within { result ≤ min max (room_of out.old) }
-        ensures kept { out.new ≡ with_ops (added out.old out.new) out.old }
-        ensures count { length out.new.ops ≡ length out.old.ops + result }
-        ensures held { IsPermutation (map entry_of (added out.old out.new) ++ D.held (inner_of self.new)) (D.held (inner_of self.old)) }
-        ensures in_order { D.ordered (inner_of self.old) → D.held (inner_of self.old) ≡ map entry_of (added out.old out.new) ++ D.held (inner_of self.new) }
-        ensures done { All (IsDone (D.sessions (inner_of self.old))) (added out.old out.new) }
-        ensures cause { result < min (min max (room_of out.old)) (length (D.held (inner_of self.old))) → Rose (capped (D.stalls (inner_of self.old) + cuts_of self.old)) (capped (D.stalls (inner_of self.new) + cuts_of self.new)) }
-        ensures room { D.room (inner_of self.new) ≡ option_map (λ r. r + result) (D.room (inner_of self.old)) }
-        ensures stalls { capped (D.stalls (inner_of self.old) + cuts_of self.old) ≤ capped (D.stalls (inner_of self.new) + cuts_of self.new) }
-        ensures sessions { D.sessions (inner_of self.new) ≡ D.sessions (inner_of self.old) }
-        ensures stats { stats_of self.new ≡ after_dequeue (min max (room_of out.old)) result (stats_of self.old) }
-        ensures log { D.log (inner_of self.new) ≡ D.log (inner_of self.old) }
-        ensures follows { D.follows (inner_of self.old) (inner_of self.new) }
-
-        // A stall of its own exactly where the call's limit is below what it could give.
-        ensures exact { cuts_of self.new ≡ cuts_after (next_limit (dequeues_of self.old)) (min (min max (room_of out.old)) (length (D.held (inner_of self.old)))) (cuts_of self.old) }
-        ensures limited { ForSome (next_limit (dequeues_of self.old)) (λ limit. result ≤ limit) }
-        ensures inner_cause { result < least (next_limit (dequeues_of self.old)) (min (min max (room_of out.old)) (length (D.held (inner_of self.old)))) → Rose (D.stalls (inner_of self.old)) (D.stalls (inner_of self.new)) }
-        ensures inner_stalls { D.stalls (inner_of self.old) ≤ D.stalls (inner_of self.new) }
-        ensures inner_stats { D.stats (inner_of self.new) ≡ after_dequeue (least (next_limit (dequeues_of self.old)) (min max (room_of out.old))) result (D.stats (inner_of self.old)) }
-        ensures dequeues { dequeues_of self.new ≡ counted (dequeues_of self.old) }
-        ensures enqueues { enqueues_of self.new ≡ enqueues_of self.old }
-    {
-        let asked = max.min(out.room());
-        let ready = asked.min(self.inner.held());
+    fn dequeue_burst(&mut self, out: &mut OpBurst<C>, max: usize) -> usize {
         let most = self.dequeues.next(max);
-        self.cuts = count_cut(self.cuts, most, ready);
-        let n = self.inner.dequeue_burst(out, most);
-        self.stats.count_dequeue(asked, n);
-        n
+        dequeue_upto(&mut self.over, out, max, most)
     }
 
     fn held(&self) -> usize {
-        self.inner.held()
+        self.over.inner.held()
     }
 
     fn stalls(&self) -> u64 {
-        self.inner.stalls().saturating_add(self.cuts)
+        stalls_of(&self.over)
     }
 
     fn stats(&self) -> Stats {
-        self.stats
+        self.over.stats
     }
 
     fn sessions(&self) -> &SessionTable {
-        self.inner.sessions()
+        self.over.inner.sessions()
     }
 }
 
@@ -226,12 +161,12 @@ impl<C, D: Device<C>> Device<C> for StallDriver<D> {
         ensures inner_stalls { D.stalls (inner_of self.new) ≡ D.stalls (inner_of self.old) }
         ensures inner_stats { OnOk result (D.stats (inner_of self.new) ≡ no_stats) }
     {
-        self.inner.set_up(alloc, kind, sessions, depth)?;
-        self.stats = Stats::new();
+        self.over.inner.set_up(alloc, kind, sessions, depth)?;
+        self.over.stats = Stats::new();
         Ok(())
     }
 
     fn depth(&self) -> usize {
-        self.inner.depth()
+        self.over.inner.depth()
     }
 }

@@ -19,7 +19,8 @@ use Rattle.session_file.specs.Sound.{choice_holds}
 use Rattle.packet_plan.specs.Asked.{chosen_from, has_bytes, transforms_of}
 use Rattle.packet_plan.specs.Way.{way_of, has_aad}
 use Rattle.packet_plan.specs.Ready.{IsUsable}
-use Rattle.packet_plan.proofs.Ways.{Fits, both, fits}
+use Rattle.crypto_model.proofs.Both.{both}
+use Rattle.packet_plan.proofs.Ways.{Fits, fits}
 
 -- what the rules and the default keep, the choice keeps
 pub chosen_holds : (ss : List Named) (rules : List Rule) (otherwise : Choice) (packet : List ℕ) (i : ℕ) → list_all (λ r. choice_holds ss r.choice) rules ≡ true

@@ -18,6 +18,7 @@ use Rattle.sym_session.specs.Xform.{transform_of}
 use Rattle.sym_session.specs.Fault.{fault_of}
 use Rattle.packet_plan.specs.declared.way.Way.{Way}
 use Rattle.packet_plan.specs.Way.{way_of, takes_back, digest_size, digest_sizes, has_data, has_code, has_aad}
+use Rattle.crypto_model.proofs.Both.{both}
 
 -- what the four tests find
 abbrev found : Bool → Bool → Bool → Bool → Option MakeRefused
@@ -54,11 +55,6 @@ digest-most : (t : Transform) → digest_fits t ≡ true → digest_size t ≤ 6
 digest-most (Cipher alg dir key) h = omega arith
 digest-most (Auth hash act key n) h = let most = hash-most hash in grind (arith, nat_tests)
 digest-most (Aead dir key n aad_len) h = grind (arith, nat_tests)
-
-pub both : (p q : Bool) → (p && q) ≡ true → (p ≡ true) × (q ≡ true)
-both true true h = (refl, refl)
-both true false h = cc
-both false q h = cc
 
 chain-most : (ts : List Transform) → is_chain ts ≡ true → list_all digest_fits ts ≡ true → digest_sizes ts ≤ 64
 chain-most [] chain fit = omega arith

@@ -12,7 +12,7 @@ use Rattle.session_file.specs.Value.{Word, hex_bytes, is_hex, is_name, is_number
 use Rattle.session_file.specs.Form.{PartWords, SessionWords, RuleWords, TargetWords, PassWord, UseWords}
 use Rattle.session_file.specs.Fault.{choice_of, faults_of, first_that_holds, has_good_salt, has_good_skip, has_name, makes_session, xform_of, target_numbers}
 use Rattle.session_file.proofs.Choices.{place_of}
-use Rattle.session_file.proofs.Values.{both}
+use Rattle.crypto_model.proofs.Both.{both}
 use Rattle.session_file.proofs.Normal.{AreBytes-hex, small_number}
 use Rattle.session_file.proofs.SessionLines.{IsSession, above}
 use Rattle.session_file.proofs.RuleLines.{IsChoice, IsRule, Names}

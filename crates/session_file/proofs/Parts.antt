@@ -18,7 +18,7 @@ use Rattle.session_file.specs.Value.{Word, hex_bytes, is_hex, is_number, number}
 use Rattle.session_file.specs.Form.{PartWords, CipherWords, AeadWords, AuthWords, act_of, alg_of, both_parts, dir_of, hash_of, more_parts, part_at, parts_of}
 use Rattle.session_file.specs.Fault.{has_good_salt, has_hexes, has_numbers, part_salt, xform_of}
 use Rattle.session_file.specs.Spelling.{act_word, alg_word, chain_text, dir_word, hash_word, spaced, xform_text}
-use Rattle.session_file.proofs.Values.{both}
+use Rattle.crypto_model.proofs.Both.{both}
 use Rattle.session_file.proofs.Words.{AreWords, AreWords-append, IsWord, IsWord-hex, IsWord-number}
 use Rattle.session_file.proofs.Normal.{AreBytes-hex, hex_again, is_hex-encode, is_number-decimal, number_again, small_number}
 

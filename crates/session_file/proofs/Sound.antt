@@ -14,7 +14,7 @@ use Rattle.session_file.specs.Value.{Word}
 use Rattle.session_file.specs.Form.{PartWords, CipherWords, AeadWords, AuthWords}
 use Rattle.session_file.specs.Fault.{has_good_salt, makes_session, part_salt, xform_of}
 use Rattle.session_file.specs.Sound.{IsSoundSession, choice_holds, salt_size}
-use Rattle.session_file.proofs.Values.{both}
+use Rattle.crypto_model.proofs.Both.{both}
 use Rattle.session_file.proofs.SessionLines.{IsSession, session_of}
 use Rattle.session_file.proofs.RuleLines.{IsChoice}
 

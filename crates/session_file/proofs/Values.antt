@@ -11,10 +11,7 @@ use Rattle.std.proofs.lemmas.Bool.Decides.{nat_tests}
 use Rattle.hex.specs.Hex.{IsBytes, decode_of, is_hex_digit}
 use Rattle.hex.proofs.HexLemmas.{decode_of-digits, decode_of-ok}
 use Rattle.session_file.specs.Value.{Word, hex_bytes, is_hex, is_number, number}
-
-pub both : (a b : Bool) → (a && b) ≡ true → (a ≡ true) × (b ≡ true)
-both true b e = (refl, e)
-both false b e = absurd (true≢false (sym e))
+use Rattle.crypto_model.proofs.Both.{both}
 
 pub each_passes : (p : ℕ → Bool) (w : Word) (i : ℕ) → list_all p w ≡ true → i < length w → p (slice_index w i) ≡ true
 each_passes p [] i all lt = absurd (omega arith)

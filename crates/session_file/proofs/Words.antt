@@ -10,7 +10,8 @@ use Rattle.hex.specs.Hex.{is_hex_digit}
 use Rattle.session_file.specs.Text.{is_blank, lines_of, raw_lines, words_of}
 use Rattle.session_file.specs.Value.{Word, is_hex, is_name, is_name_byte, is_number}
 use Rattle.session_file.specs.Spelling.{spaced}
-use Rattle.session_file.proofs.Values.{IsHex-from_test, IsNumber-from_test, both, each_passes}
+use Rattle.crypto_model.proofs.Both.{both}
+use Rattle.session_file.proofs.Values.{IsHex-from_test, IsNumber-from_test, each_passes}
 
 -- a byte of a printed word, and of a printed line
 abbrev pub is_plain : ℕ → Bool

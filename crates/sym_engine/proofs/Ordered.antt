@@ -17,7 +17,8 @@ use Rattle.sym_session.specs.declared.step.Step.{Step}
 use Rattle.sym_session.specs.First.{never_fails, VerifiesFirst}
 use Rattle.sym_session.specs.Plain.{plain}
 use Rattle.sym_engine.specs.Working.{asked, place_ready, ready}
-use Rattle.sym_engine.proofs.EachItem.{both, one_of_all}
+use Rattle.crypto_model.proofs.Both.{both}
+use Rattle.sym_engine.proofs.EachItem.{one_of_all}
 
 pub all_none : (ts : List Transform) (input : Input) → all_worked ts input None ≡ None
 all_none [] input = refl

@@ -10,6 +10,7 @@ use Rattle.crypto_model.specs.declared.plain.Act.TheVariants.{Generate, Verify}
 use Rattle.sym_session.specs.declared.refusal.MakeRefused.{MakeRefused}
 use Rattle.sym_session.specs.declared.refusal.MakeRefused.TheVariants.{BadKeyLength, BadDigestLength, BadAadLength, BadChain}
 use Rattle.sym_session.specs.Fault.{fault_of}
+use Rattle.crypto_model.proofs.Both.{both}
 
 -- what the four tests find
 abbrev found : Bool → Bool → Bool → Bool → Option MakeRefused
@@ -24,11 +25,6 @@ all_hold false digest aad chain h = cc
 all_hold true false aad chain h = cc
 all_hold true true false chain h = cc
 all_hold true true true false h = cc
-
-both : (p q : Bool) → (p && q) ≡ true → (p ≡ true) × (q ≡ true)
-both true true h = (refl, refl)
-both true false h = (refl, h)
-both false q h = cc
 
 none_found : (t : Transform) → key_fits t ≡ true → digest_fits t ≡ true → aad_len_fits t ≡ true
     → fault_of (t ∷ []) ≡ None

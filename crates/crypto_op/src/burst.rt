@@ -9,6 +9,9 @@ use std::alloc::Global;
 use std::collections::VecDeque;
 use std::marker::Model;
 
+/// As many operations as a burst has room for, a device holds, or a ring or a table has places for.
+pub const MAX_OPS: usize = 4096;
+
 /// Operations in a row, first in, first out, with room for `cap`. Only `new` takes memory.
 #[derive(Drop)]
 pub struct OpBurst<C> {
@@ -30,9 +33,9 @@ impl<C> Model for OpBurst<C> {
 }
 
 impl<C> OpBurst<C> {
-    /// An empty burst with room for at most 4,096 operations.
+    /// An empty burst with room for at most `MAX_OPS` operations.
     pub fn new(alloc: Global, cap: usize) -> Result<OpBurst<C>, OutOfMemory>
-        requires { cap ≤ 4096 }
+        requires { cap ≤ MAX_OPS }
         ensures { IfOk result (λ b. b ≡ record { cap = cap; ops = [] }) }
     {
         Ok(OpBurst {

@@ -13,7 +13,7 @@ mod burst;
 mod op;
 mod spec;
 
-pub use burst::OpBurst;
+pub use burst::{MAX_OPS, OpBurst};
 pub use op::Op;
 pub use spec::{Aad, Card, Iv, OpSpec};
 

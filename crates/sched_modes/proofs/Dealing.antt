@@ -16,9 +16,8 @@ use Rattle.sched_core.specs.Stopped.{Stopped}
 use Rattle.sched_core.specs.declared.mode.Mode.{Mode}
 use Rattle.sched_core.specs.declared.ring.Slot.{Slot}
 use Rattle.sched_core.proofs.Dealt.{some_at}
-use Rattle.sched_modes.specs.Assign.{assign}
 use Rattle.sched_modes.specs.Crew.{Account, Does, IsEmptyRing, Places, Took, account, total, worker}
-use Rattle.sched_modes.specs.Dealing.{AreUnused, HasDealt, HasTaken, IsFrontOf, IsUnused, NoneStalled, Stays}
+use Rattle.sched_modes.specs.Dealing.{AreUnused, HasDealt, HasTaken, IsFrontOf, IsUnused, NoneStalled, Stays, assigned}
 use Rattle.sched_modes.specs.Running.{DoesCall, IsStarted, crew_of, first_places, mode_of, offers_by, pool_of, stopped_of}
 use Rattle.sched_modes.specs.Workers.{cap_of}
 use Rattle.sched_modes.specs.declared.running.Running.{Running}
@@ -165,7 +164,7 @@ module _ {C D : Type 0} (m : Ghosts D C) (depth size : ℕ) (ops : List LogEntry
       has_taken depth (h.given k) _ _ (unused k d lt) here (omega (arith, given_few k lt, few))
 
   abbrev part : ℕ → List LogEntry
-  part k = assign (mode_of first) (pool_of first).threshold depth w size ops k
+  part k = assigned (stopped_of first) depth size ops k
 
   abbrev left_over : ℕ → List LogEntry
   left_over k = l.left (length (crew_of last).workers) (crew_of last).turn (rest_of_burst past) (drop (taken_by past + length (rest_of_burst past)) ops) k

@@ -20,4 +20,5 @@ pub mod NextBurst
 pub mod History
 pub mod Fair
 pub mod Assigning
+pub mod FiveOperations
 pub mod Dealing

@@ -9,6 +9,9 @@
 //!   `SizeOffers` and `FailOffers` say what an enqueue call does with a crew, and which worker has stalled where
 //!   fewer operations were taken than rooms allow; `DrawsFrom` says the same of a dequeue call.
 //! - `Follows`: what all burst calls keep, with the lists of what each worker took.
+//! - `assign`: which operations of a flow each worker gets, by the mode, where none stalls. `HasDealt` says what the
+//!   workers of a scheduler took between its start and its end, whether one stalled or not; whoever runs a flow over a
+//!   `Running` has it by the lemma `has_dealt` of `proofs/Dealing`.
 //!
 //! [`start`] makes a stopped scheduler run, and `stop` or `break_up` give it back. A short caller is the
 //! proved test `a_second_worker_takes_what_the_first_refuses`.

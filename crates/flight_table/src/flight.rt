@@ -10,6 +10,7 @@ use crate::owner::Owner;
 use crate::rule::{Berth, Deck, FlightView, HELD, NextHand};
 use atomic_table::{Seat, Table};
 use crypto_model::OutOfMemory;
+use crypto_op::MAX_OPS;
 use std::alloc::Global;
 use std::sync::Arc;
 
@@ -24,7 +25,7 @@ impl Flight {
         workers: usize,
         book: &Book,
     ) -> Result<(Owner, Vec<Hand>), OutOfMemory>
-        requires slots { (1 ≤ slots) × (slots ≤ 4096) }
+        requires slots { (1 ≤ slots) × (slots ≤ MAX_OPS) }
         requires workers { (1 ≤ workers) × (workers ≤ 8) }
         ensures owner { IfOk result (λ r. r.0 ≡ desk r.0.table slots (opened book.now workers)) }
         ensures hands { IfOk result (λ r. r.1.items ≡ hands_of r.0.table slots book.now workers) }

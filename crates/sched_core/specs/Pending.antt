@@ -2,6 +2,7 @@
 use Rattle.std.specs.Prelude.{◌≡◌, ℕ, ◌+◌, ◌%◌, ◌^◌, ◌==◌, ◌<◌, ◌≤◌, List, [], ◌∷◌, ◌++◌, length, map, zero, suc, take, Option, None, Some, count_by}
 use Rattle.std.specs.List.{filter, All}
 use Rattle.crypto_model.specs.Process.{Transform}
+use Rattle.crypto_op.specs.declared.burst.TheConstants.{MAX_OPS}
 use Rattle.crypto_op.specs.Op.{IsDone}
 use Rattle.crypto_op.specs.declared.op.Op.{Op}
 use Rattle.crypto_op.specs.Op.{moved_to}
@@ -57,7 +58,7 @@ HoldsOpen ring es = (n : ℕ) → count_by (λ e. e.pos == n) es ≡ times n (op
 -- with a ring, what its numbers say
 abbrev pub IsSound : {C : Type 0} → Option (Ring (Slot C)) → List (Entry C) → Type 0
 IsSound None es = Unit {0}
-IsSound (Some ring) es = HoldsOpen ring es × (length ring.slots ≤ ring.cap) × (ring.cap ≤ 4096) × (ring.first < 2 ^ 64)
+IsSound (Some ring) es = HoldsOpen ring es × (length ring.slots ≤ ring.cap) × (ring.cap ≤ MAX_OPS) × (ring.first < 2 ^ 64)
 
 -- with a ring, in order
 abbrev pub InOrder : {C : Type 0} → Option (Ring (Slot C)) → Type 0

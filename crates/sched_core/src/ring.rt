@@ -4,7 +4,7 @@ ghost use Rattle.std.specs.VecDeque.{deque_len, deque_capacity};
 ghost use Rattle.sched_core.specs.declared.ring.Slot.TheVariants.{Open, Settled};
 
 use crypto_model::OutOfMemory;
-use crypto_op::Op;
+use crypto_op::{MAX_OPS, Op};
 use std::alloc::Global;
 use std::collections::VecDeque;
 use std::marker::Model;
@@ -47,19 +47,20 @@ impl<C> Model for OrderRing<C> {
     ghost use Rattle.std.specs.VecDeque.{deque_len, deque_capacity};
     ghost use Rattle.sched_core.specs.declared.ring.Slot.{Slot};
     ghost use Rattle.sched_core.specs.Ring.{Ring};
+    ghost use Rattle.crypto_op.specs.declared.burst.TheConstants.{MAX_OPS};
 
     ghost Value = { Ring (Slot C) };
 
     ghost view = { λ r. record { cap = r.cap; first = r.first; slots = r.slots.items } };
 
-    ghost invariant = { λ r. (deque_len r.slots ≤ r.cap) × (r.cap ≤ deque_capacity r.slots) × (r.cap ≤ 4096) };
+    ghost invariant = { λ r. (deque_len r.slots ≤ r.cap) × (r.cap ≤ deque_capacity r.slots) × (r.cap ≤ MAX_OPS) };
 }
 
 impl<C: Drop> OrderRing<C> {
     ghost use Rattle.sched_core.specs.Ring.{number, place, IsOpenAt, settled_at, front_of};
 
     pub fn new(alloc: Global, cap: usize) -> Result<OrderRing<C>, OutOfMemory>
-        requires { (1 ≤ cap) × (cap ≤ 4096) }
+        requires { (1 ≤ cap) × (cap ≤ MAX_OPS) }
         ensures { IfOk result (λ r. r ≡ record { cap = cap; first = 0; slots = [] }) }
     {
         Ok(OrderRing {

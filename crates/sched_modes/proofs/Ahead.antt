@@ -5,6 +5,7 @@ use Rattle.std.proofs.lemmas.List.{length-map}
 use Rattle.std.proofs.lemmas.List.Elements.{All-cons, All-head, All-tail, All-nil}
 use Rattle.crypto_model.specs.Process.{Transform}
 use Rattle.crypto_op.specs.declared.op.Op.{Op}
+use Rattle.crypto_op.specs.declared.burst.TheConstants.{MAX_OPS}
 use Rattle.crypto_op.specs.Op.{Entry, IsDone, entry_of}
 use Rattle.sched_core.specs.declared.ring.Slot.{Slot}
 use Rattle.sched_core.specs.declared.ring.Slot.TheVariants.{Open, Settled}
@@ -132,7 +133,7 @@ hold_none held (suc w) (d ∷ devs) h =
     let a : held d ≡ [] = h 0 d (omega arith) in let r = hold_none held w devs (λ k x l. h (suc k) x (omega (arith, l))) in
     rw (a, r) refl
 
-pub new_sound : {C : Type 0} (n : ℕ) (ring : Option (Ring (Slot C))) (es : List (Entry C)) → es ≡ [] → n ≤ 4096 → IsNewRing n ring → IsSound ring es
+pub new_sound : {C : Type 0} (n : ℕ) (ring : Option (Ring (Slot C))) (es : List (Entry C)) → es ≡ [] → n ≤ MAX_OPS → IsNewRing n ring → IsSound ring es
 new_sound n None es e l h = tt
 new_sound n (Some r) es e l h = rw (e, h) ((λ k. refl), omega arith, l, omega arith)
 

@@ -9,7 +9,7 @@ ghost use Rattle.sched_modes.specs.Workers.{IsNewRing};
 
 use crate::{FailOver, PacketSize, Pool, RoundRobin, Running};
 use crypto_model::OutOfMemory;
-use crypto_op::OpBurst;
+use crypto_op::{MAX_OPS, OpBurst};
 use dev_core::Driver;
 use sched_core::{Mode, OrderRing, Scheduler};
 use std::alloc::Global;
@@ -28,7 +28,7 @@ fn reserve<C: Drop>(
     ordering: bool,
     cap: usize,
 ) -> Result<(OpBurst<C>, Option<OrderRing<C>>), OutOfMemory>
-    requires { (1 ≤ cap) × (cap ≤ 4096) }
+    requires { (1 ≤ cap) × (cap ≤ MAX_OPS) }
     ensures scratch { IfOk result (λ p. p.0 ≡ record { cap = if ordering then cap else 0; ops = [] }) }
     ensures ring { IfOk result (λ p. IsNewRing cap p.1 × (is_some p.1 ≡ ordering)) }
 {
@@ -48,7 +48,7 @@ pub fn start<C: Drop, D: Driver<C>>(
     ring: usize,
 ) -> Result<Running<C, D>, StartRefused<D>>
     requires mode { s.mode ≢ MultiCore }
-    requires ring { (1 ≤ ring) × (ring ≤ 4096) }
+    requires ring { (1 ≤ ring) × (ring ≤ MAX_OPS) }
     requires idle { AreIdle D.Driver s.workers s.devs }
     requires alike { AreAlike D.sessions s }
     ensures too_few { s.workers < least_workers s.mode → result ≡ Err (refused.TooFewWorkers s) }

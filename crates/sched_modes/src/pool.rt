@@ -8,7 +8,7 @@ ghost use Rattle.sched_modes.specs.Workers.{together, RingFits, pool_props, stop
 use crate::draw::{draw, held_by};
 use crate::offer::offer;
 use crate::{Got, Stop};
-use crypto_op::OpBurst;
+use crypto_op::{MAX_OPS, OpBurst};
 use dev_core::{Driver, Stats};
 use sched_core::{Mode, OrderRing, Parts, Scheduler};
 use std::sync::Arc;
@@ -70,7 +70,7 @@ impl<C: Drop, D: Driver<C>> Pool<C, D> {
         requires sizes { (0 < parts.workers) × (parts.workers ≤ vec_len parts.devs) × (parts.workers ≤ 8) }
         requires alike { EachAlike D.sessions (arc_value parts.sessions) parts.workers parts.devs.items }
         requires empty { (k : ℕ) (d : D) → k < parts.workers → D.held (slice_index_or parts.devs.items k d) ≡ [] }
-        requires scratch { (scratch.ops ≡ []) × (scratch.cap ≤ 4096) }
+        requires scratch { (scratch.ops ≡ []) × (scratch.cap ≤ MAX_OPS) }
         requires ring { IsNewRing scratch.cap ring × (is_some ring ≡ parts.ordering) }
         ensures stopped { stopped parts.mode result ≡ made_of parts }
         ensures ring { result.ring ≡ ring }

@@ -8,7 +8,7 @@ ghost use Rattle.sched_core.specs.declared.mode.Mode.TheVariants.{MultiCore};
 
 use crate::{Running, Stop, start};
 use crypto_model::{DigestPlace, Range, SessId};
-use crypto_op::{Aad, Iv, Op, OpBurst, OpSpec};
+use crypto_op::{Aad, Iv, MAX_OPS, Op, OpBurst, OpSpec};
 use dev_core::{Device, Driver, Kind, Limits, LogDriver, StallDriver};
 use mbuf_chain::Mbuf;
 use sched_core::{AttachRefused, Mode, Scheduler};
@@ -121,7 +121,7 @@ pub(super) fn running<D: Driver<u32> + Drop>(
     devs: Vec<D>,
 ) -> Result<Running<u32, D>, Fail>
     requires mode { mode ≢ MultiCore }
-    requires ring { (1 ≤ ring) × (ring ≤ 4096) }
+    requires ring { (1 ≤ ring) × (ring ≤ MAX_OPS) }
     requires idle { AreIdle D.Driver (vec_len devs) devs.items }
     ensures { IfOk result (λ r. pending r ≡ []) }
 {

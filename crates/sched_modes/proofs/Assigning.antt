@@ -93,8 +93,8 @@ module _ (p : LogEntry → Bool) (w : ℕ) where
       ∙ omega (arith, among_one t (e ∷ []) (size_within threshold e.data_len two), among_sizes threshold es two, split))
 
 -- each operation is in exactly one worker's list
-pub are_dealt_out : (mode : Mode) (threshold depth workers size : ℕ) (ops : List LogEntry) → ¬ (mode ≡ MultiCore) → least_workers mode ≤ workers → 0 < depth
-    → 0 < size
+pub are_dealt_out : (mode : Mode) (threshold depth workers size : ℕ) (ops : List LogEntry)
+    → ¬ (mode ≡ MultiCore) → least_workers mode ≤ workers → 0 < depth → 0 < size
     → AreDealtOut workers (assign mode threshold depth workers size ops) ops
 are_dealt_out RoundRobin threshold depth workers size ops runs enough some more p =
     among_turns p workers 0 (calls depth size ops) enough ∙ ap (count_by p) (joined_calls depth size ops some more)

@@ -79,7 +79,8 @@ module _ (p : LogEntry → Bool) (w : ℕ) where
   size_within : (threshold n : ℕ) → 1 < w → size_worker threshold n < w
   size_within threshold n two = elim (leb_tells (suc n) threshold) [ inl i ↦ rw i.0 two | inr f ↦ rw f.0 (omega (arith, two)) ]
 
-  sized_one : (threshold k : ℕ) (e : LogEntry) (es : List LogEntry) → of_size threshold k (e ∷ es) ≡ only_for (size_worker threshold e.data_len) (e ∷ []) k ++ of_size threshold k es
+  sized_one : (threshold k : ℕ) (e : LogEntry) (es : List LogEntry)
+      → of_size threshold k (e ∷ es) ≡ only_for (size_worker threshold e.data_len) (e ∷ []) k ++ of_size threshold k es
   sized_one threshold k e es = elim (eqb_tells k (size_worker threshold e.data_len)) [ inl i ↦ rw i.0 refl | inr f ↦ rw f.0 refl ]
 
   among_sizes : (threshold : ℕ) (ops : List LogEntry) → 1 < w → among (λ k. of_size threshold k ops) ≡ count_by p ops
@@ -92,7 +93,8 @@ module _ (p : LogEntry → Bool) (w : ℕ) where
       ∙ omega (arith, among_one t (e ∷ []) (size_within threshold e.data_len two), among_sizes threshold es two, split))
 
 -- each operation is in exactly one worker's list
-pub are_dealt_out : (mode : Mode) (threshold depth workers size : ℕ) (ops : List LogEntry) → ¬ (mode ≡ MultiCore) → least_workers mode ≤ workers → 0 < depth → 0 < size
+pub are_dealt_out : (mode : Mode) (threshold depth workers size : ℕ) (ops : List LogEntry)
+    → ¬ (mode ≡ MultiCore) → least_workers mode ≤ workers → 0 < depth → 0 < size
     → AreDealtOut workers (assign mode threshold depth workers size ops) ops
 are_dealt_out RoundRobin threshold depth workers size ops runs enough some more p =
     among_turns p workers 0 (calls depth size ops) enough ∙ ap (count_by p) (joined_calls depth size ops some more)

@@ -44,11 +44,13 @@ ordering_kept None (Some b) e = absurd (let x : Some b.cap ≡ None = e in cc)
 ordering_kept (Some a) None e = absurd (let x : None ≡ Some a.cap = e in cc)
 ordering_kept (Some a) (Some b) e = refl
 
-same_settings : {D : Type 0} (devs : List D) (m m' : Mode) (o o' : Bool) (t t' : ℕ) (s s' : List (List Transform)) (w w' : ℕ) → m' ≡ m → o' ≡ o → t' ≡ t → s' ≡ s → w' ≡ w
+same_settings : {D : Type 0} (devs : List D) (m m' : Mode) (o o' : Bool) (t t' : ℕ) (s s' : List (List Transform)) (w w' : ℕ)
+    → m' ≡ m → o' ≡ o → t' ≡ t → s' ≡ s → w' ≡ w
     → ◌≡◌ {A = Stopped D} (record { mode = m'; ordering = o'; threshold = t'; sessions = s'; devs = devs; workers = w' }) (record { mode = m; ordering = o; threshold = t; sessions = s; devs = devs; workers = w })
 same_settings devs m m' o o' t t' s s' w w' a b c d e = rw (a, b, c, d, e) refl
 
-stays_on : {C D : Type 0} {m : Ghosts D C} (old : Running C D m) (call : Call) (new : Running C D m) → DoesCall old call new → Stays (stopped_of old) (stopped_of new)
+stays_on : {C D : Type 0} {m : Ghosts D C} (old : Running C D m) (call : Call) (new : Running C D m) → DoesCall old call new
+    → Stays (stopped_of old) (stopped_of new)
 stays_on old call new d =
     let p = pool_of old in let q = pool_of new in let w = d.follows.went in
     record {
@@ -184,7 +186,8 @@ module _ {C D : Type 0} (m : Ghosts D C) (depth size : ℕ) (ops : List LogEntry
         let nothing : left_over k ≡ [] = none_left (λ r u. l.left n t r u k) size ops past flows all (l.ends n t k) in
         sym (append-nil (h.given k)) ∙ ap (λ (e : List LogEntry). h.given k ++ e) (sym nothing) ∙ is_all k lt
 
-  all_dealt : length ops < 2 ^ 64 - 1 → (crew_of first).turn ≡ 0 → IsEmptyRing (crew_of first).ring × IsRingAt size 0 (crew_of first).ring → HasDealt m depth size ops past (stopped_of first) (stopped_of last)
+  all_dealt : length ops < 2 ^ 64 - 1 → (crew_of first).turn ≡ 0 → IsEmptyRing (crew_of first).ring × IsRingAt size 0 (crew_of first).ring
+      → HasDealt m depth size ops past (stopped_of first) (stopped_of last)
   all_dealt few turn begins = record {
     given = h.given;
     takes = takes few;
@@ -198,8 +201,8 @@ module _ {C D : Type 0} (m : Ghosts D C) (depth size : ℕ) (ops : List LogEntry
 -- From a stopped scheduler with unused workers of this depth, which was started with a ring of this capacity, to what is
 -- left of it when it is stopped or broken up behind these calls.
 pub has_dealt : {C D : Type 0} (m : Ghosts D C) (s : Stopped D) (cap depth size : ℕ) (ops : List LogEntry) (past : List Call) (first last : Running C D m)
-    → IsStarted s cap first → AreUnused m depth s → Ran (λ (r : Running C D m) (c : Call) (q : Running C D m). DoesCall r c q) first past last → Flows size ops past
-    → 0 < depth → 0 < size → size ≤ cap → renumbered 0 ops ≡ ops → length ops < 2 ^ 64 - 1 → HasDealt m depth size ops past s (stopped_of last)
+    → IsStarted s cap first → AreUnused m depth s → Ran (λ (r : Running C D m) (c : Call) (q : Running C D m). DoesCall r c q) first past last
+    → Flows size ops past → 0 < depth → 0 < size → size ≤ cap → renumbered 0 ops ≡ ops → length ops < 2 ^ 64 - 1 → HasDealt m depth size ops past s (stopped_of last)
 has_dealt {C} {D} m s cap depth size ops past first last started unused ran flows some more fits own few =
     let mode = mode_of first in
     let threshold = (pool_of first).threshold in
@@ -211,7 +214,7 @@ has_dealt {C} {D} m s cap depth size ops past first last started unused ran flow
     (all_dealt m depth size ops past first last on.0 flows (subst (AreUnused m depth) (sym is) unused) l h few started.turn (ring_begins size cap s.ordering _ fits started.ring))
 
 -- the workers' counts together
-pub sums : {C D : Type 0} (m : Ghosts D C) (depth size : ℕ) (ops : List LogEntry) (past : List Call) (old new : Stopped D) → HasDealt m depth size ops past old new
-    → (d : D) → total old.workers (λ k. (m.stats (get_or new.devs k d)).enqueued) ≡ taken_by past
+pub sums : {C D : Type 0} (m : Ghosts D C) (depth size : ℕ) (ops : List LogEntry) (past : List Call) (old new : Stopped D)
+    → HasDealt m depth size ops past old new → (d : D) → total old.workers (λ k. (m.stats (get_or new.devs k d)).enqueued) ≡ taken_by past
 sums m depth size ops past old new h d =
     total_same old.workers (λ k. (m.stats (get_or new.devs k d)).enqueued) (λ k. length (h.given k)) (λ k lt. (h.takes k d lt).enqueued) ∙ h.sum

@@ -22,7 +22,8 @@ only_none t k = elim (eqb_tells k t) [ inl i ↦ rw i.0 refl | inr f ↦ rw f.0 
 all_there : (n m d : ℕ) (P : Type 0) → n ≤ m → n ≤ d → (n < min m d → P) → ¬ P → n ≡ min m d
 all_there n m d P a b cause never = elim (cases_lt n (min m d)) [ inl less ↦ absurd (never (cause less)) | inr more ↦ omega (arith, a, b, more) ]
 
-took_all : (offered most n depth : ℕ) (old new : Account) → offered ≡ most → n ≤ most → IsCause offered n old new → old.room ≡ Some depth → ¬ (Rose old.stalls new.stalls) → n ≡ min most depth
+took_all : (offered most n depth : ℕ) (old new : Account) → offered ≡ most → n ≤ most → IsCause offered n old new → old.room ≡ Some depth
+    → ¬ (Rose old.stalls new.stalls) → n ≡ min most depth
 took_all offered most n depth old new is few cause room none =
     let c = cause depth room in
     all_there n most depth (Rose old.stalls new.stalls) few c.0 (λ less. c.1 (omega (arith, less, is))) none
@@ -32,7 +33,8 @@ took_all offered most n depth old new is few cause room none =
 abbrev round_left : (depth size : ℕ) → Left
 round_left depth size w t r u k = in_turn w t (calls_left depth size r u) k
 
-round_begins : (depth size : ℕ) → 0 < size → (w t : ℕ) (u : List LogEntry) (k : ℕ) → round_left depth size w t [] u k ≡ round_left depth size w t (take size u) (drop size u) k
+round_begins : (depth size : ℕ) → 0 < size → (w t : ℕ) (u : List LogEntry) (k : ℕ)
+    → round_left depth size w t [] u k ≡ round_left depth size w t (take size u) (drop size u) k
 round_begins depth size some w t u k = ap (λ l. in_turn w t l k) (begin_left depth size u some)
 
 one_turn : (w k t : ℕ) (c : List LogEntry) (cs : List (List LogEntry)) → in_turn w t (c ∷ cs) k ≡ only_for t c k ++ in_turn w (next w t) cs k
@@ -47,7 +49,8 @@ round_leaves depth size w t n [] u k some is =
 round_leaves depth size w t n (x ∷ xs) u k some is =
     sym (one_turn w k t (take n (x ∷ xs)) (calls_left depth size (drop n (x ∷ xs)) u)) ∙ ap (λ l. in_turn w t l k) (sym (call_left depth size n (x ∷ xs) u some (omega arith) is))
 
-round_fits : (depth size : ℕ) → 0 < depth → (old : Crew) (b : List LogEntry) (n : ℕ) (new : Crew) → RoundOffers old b n new → Fits depth (round_left depth size) old b n new
+round_fits : (depth size : ℕ) → 0 < depth → (old : Crew) (b : List LogEntry) (n : ℕ) (new : Crew) → RoundOffers old b n new
+    → Fits depth (round_left depth size) old b n new
 round_fits depth size some old b n new offers = record {
   parts = only_for old.turn (told old.ring (take n b));
   deals = offers.deals;
@@ -76,7 +79,8 @@ size_left threshold w t r u k = of_size threshold k (r ++ u)
 size_begins : (threshold size w t : ℕ) (u : List LogEntry) (k : ℕ) → size_left threshold w t [] u k ≡ size_left threshold w t (take size u) (drop size u) k
 size_begins threshold size w t u k = ap (of_size threshold k) (sym (take-append-drop size u))
 
-size_fits : (threshold depth : ℕ) (old : Crew) (b : List LogEntry) (n : ℕ) (new : Crew) → SizeOffers threshold old b n new → Fits depth (size_left threshold) old b n new
+size_fits : (threshold depth : ℕ) (old : Crew) (b : List LogEntry) (n : ℕ) (new : Crew) → SizeOffers threshold old b n new
+    → Fits depth (size_left threshold) old b n new
 size_fits threshold depth old b n new offers = record {
   parts = λ k. of_size threshold k (told old.ring (take n b));
   deals = offers.deals;
@@ -93,7 +97,8 @@ size_fits threshold depth old b n new offers = record {
 abbrev fail_left : (depth size : ℕ) → Left
 fail_left depth size w t r u k = flat_map (λ taken. fail_share depth taken k) (calls_left (depth + depth) size r u)
 
-fail_begins : (depth size : ℕ) → 0 < size → (w t : ℕ) (u : List LogEntry) (k : ℕ) → fail_left depth size w t [] u k ≡ fail_left depth size w t (take size u) (drop size u) k
+fail_begins : (depth size : ℕ) → 0 < size → (w t : ℕ) (u : List LogEntry) (k : ℕ)
+    → fail_left depth size w t [] u k ≡ fail_left depth size w t (take size u) (drop size u) k
 fail_begins depth size some w t u k = ap (flat_map (λ taken. fail_share depth taken k)) (begin_left (depth + depth) size u some)
 
 share_none : (depth k : ℕ) → fail_share depth [] k ≡ []
@@ -115,7 +120,8 @@ share_is first depth n k b one all =
     let m = take_min first depth (take n b) (omega (arith, one, all, length-take n b)) in
     ap (λ (l : List LogEntry). only_for 0 l k ++ only_for 1 (drop first (take n b)) k) m.0 ∙ ap (λ (l : List LogEntry). only_for 0 (take depth (take n b)) k ++ only_for 1 l k) m.1
 
-fail_fits : (depth size : ℕ) → 0 < depth → (old : Crew) (b : List LogEntry) (n : ℕ) (new : Crew) → FailOffers old b n new → Fits depth (fail_left depth size) old b n new
+fail_fits : (depth size : ℕ) → 0 < depth → (old : Crew) (b : List LogEntry) (n : ℕ) (new : Crew) → FailOffers old b n new
+    → Fits depth (fail_left depth size) old b n new
 fail_fits depth size some old b n new offers = record {
   parts = λ k. only_for 0 (take offers.first (told old.ring (take n b))) k ++ only_for 1 (drop offers.first (told old.ring (take n b))) k;
   deals = offers.deals;
@@ -133,7 +139,8 @@ fail_fits depth size some old b n new offers = record {
       ∙ fail_leaves depth size (length old.workers) old.turn n b u k some all;
 }
 
-fail_starts : (depth size w : ℕ) (ops : List LogEntry) (k : ℕ) → fail_left depth size w 0 [] ops k ≡ flat_map (λ taken. fail_share depth taken k) (calls (depth + depth) size ops)
+fail_starts : (depth size w : ℕ) (ops : List LogEntry) (k : ℕ)
+    → fail_left depth size w 0 [] ops k ≡ flat_map (λ taken. fail_share depth taken k) (calls (depth + depth) size ops)
 fail_starts depth size w ops k = ap (λ l. flat_map (λ taken. fail_share depth taken k) (l ++ calls (depth + depth) size ops)) (chunks_none (depth + depth))
 
 fail_ends : (depth size w t k : ℕ) → fail_left depth size w t [] [] k ≡ []

@@ -27,7 +27,8 @@ pub record Fits (depth : ℕ) (left : Left) (old : Crew) (b : List LogEntry) (n 
   pub parts : ℕ → List LogEntry
   pub deals : DealsOut parts n old new
   pub ring : Grew n old.ring new.ring
-  pub fair : IsReady depth old → NoneRose old new → free old.ring (length b) ≡ length b → told old.ring (take n b) ≡ take n b → (u : List LogEntry) (k : ℕ) → k < length old.workers
+  pub fair : IsReady depth old → NoneRose old new → free old.ring (length b) ≡ length b → told old.ring (take n b) ≡ take n b → (u : List LogEntry) (k : ℕ)
+      → k < length old.workers
       → parts k ++ left (length new.workers) new.turn (drop n b) u k ≡ left (length old.workers) old.turn b u k
 
 -- ---- the ring
@@ -41,7 +42,8 @@ all_free : (size n : ℕ) (o : Option Places) (k : ℕ) → IsRingAt size k o �
 all_free size n None k at empty h = refl
 all_free size n (Some p) k at empty h = omega (arith, at.0, empty, h)
 
-told_same : (size : ℕ) (o : Option Places) (k : ℕ) (es : List LogEntry) → IsRingAt size k o → ((next : ℕ) → next ≡ k % 2 ^ 64 → renumbered next es ≡ es) → told o es ≡ es
+told_same : (size : ℕ) (o : Option Places) (k : ℕ) (es : List LogEntry) → IsRingAt size k o → ((next : ℕ) → next ≡ k % 2 ^ 64 → renumbered next es ≡ es)
+    → told o es ≡ es
 told_same size None k es at h = refl
 told_same size (Some p) k es at h = h p.next at.1
 
@@ -169,7 +171,8 @@ module _ (depth size : ℕ) (left : Left) (ops : List LogEntry) (most n : ℕ) (
 module _ {D : Type 0} (view : D → Crew) (offers : Crew → List LogEntry → ℕ → Crew → Type 0) (depth size : ℕ) (left : Left) (ops : List LogEntry)
     (fits : (old : Crew) (b : List LogEntry) (n : ℕ) (new : Crew) → offers old b n new → Fits depth left old b n new)
     (begins : (w t : ℕ) (u : List LogEntry) (k : ℕ) → left w t [] u k ≡ left w t (take size u) (drop size u) k) (own : renumbered 0 ops ≡ ops) where
-  pub dealt : (old : D) (past : List Call) (new : D) → Ran (λ d c e. Does offers (view d) c (view e)) old past new → Flows size ops past → Dealt depth size left ops past (view old) (view new)
+  pub dealt : (old : D) (past : List Call) (new : D) → Ran (λ d c e. Does offers (view d) c (view e)) old past new → Flows size ops past
+      → Dealt depth size left ops past (view old) (view new)
   dealt old [] new ran flows = subst (λ (d : D). Dealt depth size left ops [] (view old) (view d)) (sym ran) (none_yet depth size left ops (view old))
   dealt old (Offers b n ∷ past) new ran flows =
       offered_more depth size left ops begins own b n past (view old) (view ran.0) (view new) flows (dealt old past ran.0 ran.1 flows.4) (fits (view ran.0) b n (view new) ran.2)

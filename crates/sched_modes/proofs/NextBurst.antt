@@ -56,7 +56,8 @@ rest_within size ops (Offers b n ∷ past) flows =
 rest_within size ops (Asks most n ∷ past) flows = rest_within size ops past flows
 
 -- nothing is left of a flow that took all
-pub none_left : (left : List LogEntry → List LogEntry → List LogEntry) (size : ℕ) (ops : List LogEntry) (past : List Call) → Flows size ops past → taken_by past ≡ length ops → left [] [] ≡ []
+pub none_left : (left : List LogEntry → List LogEntry → List LogEntry) (size : ℕ) (ops : List LogEntry) (past : List Call) → Flows size ops past
+    → taken_by past ≡ length ops → left [] [] ≡ []
     → left (rest_of_burst past) (drop (taken_by past + length (rest_of_burst past)) ops) ≡ []
 none_left left size ops past flows all ends =
     let r = rest_of_burst past in
@@ -100,7 +101,8 @@ rest_own size ops (Offers b n ∷ past) all flows =
 rest_own size ops (Asks most n ∷ past) all flows = rest_own size ops past all flows
 
 -- under the number of its first operation, what is taken of a burst is as it is
-pub taken_own : (size : ℕ) (ops : List LogEntry) (b : List LogEntry) (n next : ℕ) (past : List Call) → renumbered 0 ops ≡ ops → Flows size ops (Offers b n ∷ past) → next ≡ taken_by past % 2 ^ 64
+pub taken_own : (size : ℕ) (ops : List LogEntry) (b : List LogEntry) (n next : ℕ) (past : List Call) → renumbered 0 ops ≡ ops
+    → Flows size ops (Offers b n ∷ past) → next ≡ taken_by past % 2 ^ 64
     → renumbered next (take n b) ≡ take n b
 taken_own size ops b n next past all flows is =
     let own = subst (HaveOwn (taken_by past)) (sym flows.0) (next_own size ops (taken_by past) (rest_of_burst past) all (rest_own size ops past all flows.4)) in

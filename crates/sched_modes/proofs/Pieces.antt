@@ -46,7 +46,8 @@ take_min zero (suc d) (x ∷ r) e = absurd (omega (arith, e))
 take_min (suc n) (suc d) (x ∷ r) e = let i = take_min n d r (omega (arith, e)) in (ap (λ l. x ∷ l) i.0, i.1)
 
 -- a call takes what it can of a burst
-pub call_left : (most size n : ℕ) (r u : List LogEntry) → 0 < most → 0 < length r → n ≡ min (length r) most → calls_left most size r u ≡ take n r ∷ calls_left most size (drop n r) u
+pub call_left : (most size n : ℕ) (r u : List LogEntry) → 0 < most → 0 < length r → n ≡ min (length r) most
+    → calls_left most size r u ≡ take n r ∷ calls_left most size (drop n r) u
 call_left most size n r u some more is =
     let m = take_min n most r is in
     ap (λ l. l ++ calls most size u) (chunks_some most r some more)

@@ -1,21 +1,30 @@
 -- Records that are answered one after another, from a number on.
-use Rattle.std.proofs.Common.{◌≡◌, ◌<◌, ◌+◌, ℕ, Bool, zero, suc, List, [], ◌∷◌, ◌++◌, length, take, drop, refl, ap, sym, subst, ◌∙◌, arith, add-zero, length-drop}
-use Rattle.std.specs.List.{All, flat_map}
-use Rattle.std.proofs.lemmas.List.{append-nil, take-append-drop}
+use Rattle.std.proofs.Common.{◌≡◌, ◌≤◌, ◌+◌, ◌==◌, ℕ, Bool, zero, suc, List, [], ◌∷◌, ◌++◌, length, take, drop, count_by, refl, ap, sym, subst, ◌∙◌, arith, add-zero, append_assoc, length-append}
+use Rattle.std.specs.Prelude.{Some}
+use Rattle.std.specs.List.{All, flat_map, slice_get}
+use Rattle.std.proofs.Math.Seq.{take-append_seam}
+use Rattle.std.proofs.lemmas.List.{append-nil, length-map, map-append}
+use Rattle.std.proofs.lemmas.List.Elements.{All-cons, All-head, All-nil, All-tail}
 use Rattle.std.proofs.lemmas.List.Concat.{flat_map-append}
 use Rattle.crypto_op.specs.declared.spec.Card.{Card}
-use Rattle.crypto_op.specs.Op.{Entry}
+use Rattle.crypto_op.specs.Op.{Entry, input_of}
 use Rattle.capture_io.specs.Capture.{Rec}
 use Rattle.capture_io.specs.Pieces.{AppendsPart}
 use Rattle.session_file.specs.declared.plan.Plan.{Plan}
 use Rattle.packet_plan.specs.declared.written.Written.{Written}
 use Rattle.packet_plan.specs.Answered.{Answered, answered, answered_from}
+use Rattle.packet_plan.specs.Asked.{Works, asked}
 use Rattle.packet_plan.specs.Work.{written_view}
+use Rattle.packet_flow.specs.declared.counts.Counts.{Counts}
 use Rattle.packet_flow.specs.declared.slots.Slot.{Slot}
 use Rattle.packet_flow.specs.declared.slots.Slot.TheVariants.{Ready}
-use Rattle.packet_flow.specs.Slots.{IsBetween, SlotsSay, open_numbers}
+use Rattle.packet_flow.specs.Counts.{counts_of}
 use Rattle.packet_flow.specs.Flowed.{CutAt, answer_bytes}
-use Rattle.std.proofs.Common.{append_assoc}
+use Rattle.packet_flow.specs.Numbered.{Numbered, answers_to, numbered, numbers_of}
+use Rattle.packet_flow.specs.Slots.{IsFor, SlotsSay, StandFor, open_numbers}
+use Rattle.packet_flow.specs.Writing.{Appends, CutsNext, HasWritten}
+use Rattle.packet_flow.proofs.InSlots.{count-cons, none_below, one, same_told, times}
+use Rattle.packet_flow.proofs.Rising.{length-numbered, rises_lower}
 
 -- ---- a list behind its first n elements
 
@@ -33,14 +42,6 @@ drop_more (suc n) (y ∷ ys) more x is = drop_more n ys more x is
 
 -- ---- answers
 
-pub answered_from-drop : (plan : Plan) (m n : ℕ) (rs : List Rec) → drop n (answered_from plan m rs) ≡ answered_from plan (m + n) (drop n rs)
-unfolding answered_from
-answered_from-drop plan m zero rs = ap (λ (k : ℕ). answered_from plan k rs) (sym (add-zero m))
-answered_from-drop plan m (suc n) [] = refl
-answered_from-drop plan m (suc n) (r ∷ rs) =
-    let at : (m + 1) + n ≡ m + suc n = omega arith in
-    answered_from-drop plan (m + 1) n rs ∙ ap (λ (k : ℕ). answered_from plan k (drop n rs)) at
-
 pub length-answered_from : (plan : Plan) (n : ℕ) (rs : List Rec) → length (answered_from plan n rs) ≡ length rs
 unfolding answered_from
 length-answered_from plan n [] = refl
@@ -53,59 +54,179 @@ answered_from-append plan n (r ∷ rs) more =
     let at : (n + 1) + length rs ≡ n + length (r ∷ rs) = omega arith in
     ap (λ (l : List Answered). answered plan n r ∷ l) (answered_from-append plan (n + 1) rs more ∙ ap (λ (k : ℕ). answered_from plan (n + 1) rs ++ answered_from plan k more) at)
 
--- the slot at the front is ready
-pub record FrontReady (plan : Plan) (used : List Rec) (first : ℕ) (ss : List Slot) (w : Written) (entries : List (Entry Card)) : Type 0 where
-  pub inside : first < length used
-  pub next : drop first (answered_from plan 0 used) ≡ written_view w ∷ drop (suc first) (answered_from plan 0 used)
-  pub between : IsBetween plan used (first + 1) ss entries
+-- the same with their numbers beside them
+pub answers_to-numbered : (plan : Plan) (n : ℕ) (rs : List Rec) → answers_to plan (numbered n rs) ≡ answered_from plan n rs
+unfolding answered_from numbered
+answers_to-numbered plan n [] = refl
+answers_to-numbered plan n (r ∷ rs) = ap (λ (l : List Answered). answered plan n r ∷ l) (answers_to-numbered plan (n + 1) rs)
 
-ready_step : (plan : Plan) (used : List Rec) (first : ℕ) (ss : List Slot) (w : Written) (entries : List (Entry Card)) (behind : List Rec) → drop first used ≡ behind
-    → SlotsSay plan first (Ready w ∷ ss) behind → All (λ _. Unit {0}) entries → IsBetween plan used first (Ready w ∷ ss) entries → FrontReady plan used first ss w entries
-unfolding SlotsSay answered_from open_numbers
-ready_step plan used first ss w entries [] is say all b = absurd say
-ready_step plan used first ss w entries (r ∷ rs) is say all b =
-    let rest : drop (suc first) used ≡ rs = drop_more first used rs r is in
-    let one : first + 1 ≡ suc first = omega arith in
-    let at : 0 + first ≡ first = omega arith in
-    let inside : first < length used = omega (arith, ap length is, length-drop first used) in
-    let now : drop first (answered_from plan 0 used) ≡ answered plan first r ∷ answered_from plan (first + 1) rs =
-    answered_from-drop plan 0 first used ∙ ap (λ (k : ℕ). answered_from plan k (drop first used)) at ∙ ap (answered_from plan first) is in
+pub answers_to-append : (plan : Plan) (ps more : List Numbered) → answers_to plan (ps ++ more) ≡ answers_to plan ps ++ answers_to plan more
+answers_to-append plan ps more = map-append (λ (p : Numbered). answered plan p.number p.rec) ps more
+
+-- the first of a capture's answers are those to its first packets
+pub first_answers_to : (plan : Plan) (used : List Rec) (done waiting : List Numbered) → numbered 0 used ≡ done ++ waiting
+    → take (length done) (answered_from plan 0 used) ≡ answers_to plan done
+first_answers_to plan used done waiting split =
+    let all : answered_from plan 0 used ≡ answers_to plan done ++ answers_to plan waiting =
+    sym (answers_to-numbered plan 0 used) ∙ ap (answers_to plan) split ∙ answers_to-append plan done waiting in
+    let count : length done ≡ length (answers_to plan done) = sym (length-map done (λ (p : Numbered). answered plan p.number p.rec)) in
+    ap (take (length done)) all ∙ ap (λ (n : ℕ). take n (answers_to plan done ++ answers_to plan waiting)) count ∙ take-append_seam (answers_to plan done) (answers_to plan waiting)
+
+pub few_done : (used : List Rec) (done waiting : List Numbered) → numbered 0 used ≡ done ++ waiting → length done + length waiting ≡ length used
+few_done used done waiting split = omega (arith, ap length split, length-numbered 0 used, length-append done waiting)
+
+-- ---- the slot at the front is ready
+
+for_behind : (plan : Plan) (p : Numbered) (ps : List Numbered) (e : Entry Card) → IsFor plan (p ∷ ps) e → one (e.cargo.packet == p.number) ≡ 0 → IsFor plan ps e
+for_behind plan p ps e f other = by_place f.i f.packet f.there f.number f.asked where
+  by_place : (i : ℕ) (q : Numbered) → slice_get (p ∷ ps) i ≡ Some q → q.number ≡ e.cargo.packet → asked plan q.number q.rec.packet ≡ Works e.cargo (input_of e.request) → IsFor plan ps e
+  by_place zero q there number asks =
+      let same : p ≡ q = cc in
+      let here : e.cargo.packet ≡ p.number = sym number ∙ ap (λ (x : Numbered). x.number) (sym same) in
+      let told : one (e.cargo.packet == p.number) ≡ 1 = ap (λ (n : ℕ). one (n == p.number)) here ∙ ap one (same_told p.number) in
+      absurd (omega (arith, told, other))
+  by_place (suc i) q there number asks = record { i = i; packet = q; there = there; number = number; asked = asks }
+
+all_behind : (plan : Plan) (p : Numbered) (ps : List Numbered) (es : List (Entry Card)) → All (IsFor plan (p ∷ ps)) es → count_by (λ e. e.cargo.packet == p.number) es ≡ 0 → All (IsFor plan ps) es
+all_behind plan p ps [] all none = All-nil (IsFor plan ps)
+all_behind plan p ps (e ∷ es) all none =
+    let split = count-cons (λ (x : Entry Card). x.cargo.packet == p.number) e es in
+    All-cons (IsFor plan ps) e es (for_behind plan p ps e (All-head (IsFor plan (p ∷ ps)) e es all) (omega (arith, split, none)))
+    (all_behind plan p ps es (All-tail (IsFor plan (p ∷ ps)) e es all) (omega (arith, split, none)))
+
+-- it is that of the first packet, and the others stand for the packets behind
+pub record FrontReady (plan : Plan) (ps : List Numbered) (ss : List Slot) (w : Written) (entries : List (Entry Card)) : Type 0 where
+  pub packet : Numbered
+  pub others : List Numbered
+  pub split : ps ≡ packet ∷ others
+  pub view : written_view w ≡ answered plan packet.number packet.rec
+  pub stand : StandFor plan others ss entries
+
+ready_step : (plan : Plan) (ps : List Numbered) (ss : List Slot) (n : ℕ) (w : Written) (entries : List (Entry Card)) → SlotsSay plan (Ready n w ∷ ss) ps → StandFor plan ps (Ready n w ∷ ss) entries
+    → FrontReady plan ps ss w entries
+unfolding SlotsSay open_numbers
+ready_step plan [] ss n w entries say b = absurd say
+ready_step plan (p ∷ ps) ss n w entries say b =
+    let none : times p.number (open_numbers ss) ≡ 0 = none_below plan p.number (p.number + 1) ss ps say.1 b.rising.1 (omega arith) in
     record {
-      inside = inside;
-      next = now ∙ ap (λ (a : Answered). a ∷ answered_from plan (first + 1) rs) (sym say.0)
-          ∙ ap (λ (l : List Answered). written_view w ∷ l) (sym (drop_more first (answered_from plan 0 used) (answered_from plan (first + 1) rs) (answered plan first r) now));
-      between = record {
-        begun = omega (arith, inside);
-        slots = subst (SlotsSay plan (first + 1) ss) (sym (ap (λ (k : ℕ). drop k used) one ∙ rest)) say.1;
-        made = b.made;
+      packet = p;
+      others = ps;
+      split = refl;
+      view = say.0.1;
+      stand = record {
+        slots = say.1;
+        rising = rises_lower 0 (p.number + 1) (numbers_of ps) (omega arith) b.rising.1;
+        made = all_behind plan p ps entries b.made (b.waits p.number ∙ none);
         waits = b.waits;
       };
     }
 
-pub front_ready : (plan : Plan) (used : List Rec) (first : ℕ) (ss : List Slot) (w : Written) (entries : List (Entry Card)) → IsBetween plan used first (Ready w ∷ ss) entries
-    → FrontReady plan used first ss w entries
-front_ready plan used first ss w entries b = ready_step plan used first ss w entries (drop first used) refl b.slots (λ k d lt. tt) b
+pub front_ready : (plan : Plan) (ps : List Numbered) (ss : List Slot) (n : ℕ) (w : Written) (entries : List (Entry Card)) → StandFor plan ps (Ready n w ∷ ss) entries → FrontReady plan ps ss w entries
+front_ready plan ps ss n w entries b = ready_step plan ps ss n w entries b.slots b
 
--- one answer more is written
-pub written_more : (big : Bool) (plan : Plan) (used : List Rec) (first : ℕ) (ss : List Slot) (w : Written) (entries : List (Entry Card)) (base old new : List ℕ)
-    → FrontReady plan used first ss w entries → old ≡ base ++ flat_map (answer_bytes big) (take first (answered_from plan 0 used))
-    → new ≡ old ++ answer_bytes big (written_view w) → new ≡ base ++ flat_map (answer_bytes big) (take (first + 1) (answered_from plan 0 used))
-written_more big plan used first ss w entries base old new f before one =
-    let answers = answered_from plan 0 used in
-    let bytes = answer_bytes big in
-    let count : suc first ≡ first + 1 = omega arith in
-    let more : flat_map bytes (take first answers) ++ bytes (written_view w) ≡ flat_map bytes (take (first + 1) answers) =
-    ap (λ (l : List ℕ). flat_map bytes (take first answers) ++ l) (sym (append-nil (bytes (written_view w)))) ∙ sym (flat_map-append bytes (take first answers) (written_view w ∷ []))
-    ∙ ap (flat_map bytes) (sym (take_more first answers (drop (suc first) answers) (written_view w) f.next) ∙ ap (λ (k : ℕ). take k answers) count) in
-    one ∙ ap (λ (l : List ℕ). l ++ bytes (written_view w)) before ∙ append_assoc base (flat_map bytes (take first answers)) (bytes (written_view w)) ∙ ap (λ (l : List ℕ). base ++ l) more
+-- ---- what is written of them
 
--- the next is not written whole
-pub cut_here : (big : Bool) (plan : Plan) (used : List Rec) (first : ℕ) (ss : List Slot) (w : Written) (entries : List (Entry Card)) (base old new : List ℕ)
-    → FrontReady plan used first ss w entries → old ≡ base ++ flat_map (answer_bytes big) (take first (answered_from plan 0 used))
-    → AppendsPart old new (answer_bytes big (written_view w)) → CutAt big (answered_from plan 0 used) first base new
-cut_here big plan used first ss w entries base old new f before part = record {
-  next = written_view w;
-  others = drop (suc first) (answered_from plan 0 used);
-  split = sym (take-append-drop first (answered_from plan 0 used)) ∙ ap (λ (l : List Answered). take first (answered_from plan 0 used) ++ l) f.next;
-  part = (part.0, part.1, part.2 ∙ ap (λ (l : List ℕ). l ++ take part.0 (answer_bytes big (written_view w))) before);
-}
+module _ (big : Bool) (k_tells : Type 0) (plan : Plan) (ps : List Numbered) (entries : List (Entry Card)) (base : List ℕ) (before : Counts) where
+  -- nothing yet
+  pub none_written : (ss : List Slot) → StandFor plan ps ss entries → HasWritten plan ps entries ss before before (Appends plan big k_tells base base)
+  none_written ss b = record {
+    gone = [];
+    left = ps;
+    split = refl;
+    stand = b;
+    counts = λ answers is. is ∙ ap counts_of (sym (append-nil answers));
+    says = λ told. sym (append-nil base);
+  }
+
+  module _ (n : ℕ) (w : Written) (ss : List Slot) (now after : Counts) (old new : List ℕ) (h : HasWritten plan ps entries (Ready n w ∷ ss) before now (Appends plan big k_tells base old)) where
+    front : FrontReady plan h.left ss w entries
+    front = front_ready plan h.left ss n w entries h.stand
+
+    abbrev gone_now : List Numbered
+    gone_now = h.gone ++ front.packet ∷ []
+
+    answers_now : answers_to plan gone_now ≡ answers_to plan h.gone ++ written_view w ∷ []
+    answers_now = answers_to-append plan h.gone (front.packet ∷ []) ∙ ap (λ (a : Answered). answers_to plan h.gone ++ a ∷ []) (sym front.view)
+
+    -- one more
+    pub written_more : ((answers : List Answered) (a : Answered) → now ≡ counts_of answers → a.fate ≡ w.fate → after ≡ counts_of (answers ++ a ∷ []))
+        → (k_tells → new ≡ old ++ answer_bytes big (written_view w)) → HasWritten plan ps entries ss before after (Appends plan big k_tells base new)
+    written_more counted appended = record {
+      gone = gone_now;
+      left = front.others;
+      split = h.split ∙ ap (λ (l : List Numbered). h.gone ++ l) front.split ∙ sym (append_assoc h.gone (front.packet ∷ []) front.others);
+      stand = front.stand;
+      counts = λ answers is.
+          counted (answers ++ answers_to plan h.gone) (written_view w) (h.counts answers is) refl
+          ∙ ap counts_of (append_assoc answers (answers_to plan h.gone) (written_view w ∷ []) ∙ ap (λ (l : List Answered). answers ++ l) (sym answers_now));
+      says = λ told.
+          let bytes = answer_bytes big in
+          let more : flat_map bytes (answers_to plan h.gone) ++ bytes (written_view w) ≡ flat_map bytes (answers_to plan gone_now) =
+          ap (λ (l : List ℕ). flat_map bytes (answers_to plan h.gone) ++ l) (sym (append-nil (bytes (written_view w)))) ∙ sym (flat_map-append bytes (answers_to plan h.gone) (written_view w ∷ []))
+          ∙ ap (flat_map bytes) (sym answers_now) in
+          appended told ∙ ap (λ (l : List ℕ). l ++ bytes (written_view w)) (h.says told) ∙ append_assoc base (flat_map bytes (answers_to plan h.gone)) (bytes (written_view w)) ∙ ap (λ (l : List ℕ). base ++ l) more;
+    }
+
+    -- it isn't written whole
+    pub cut_here : (k_tells → AppendsPart old new (answer_bytes big (written_view w))) → HasWritten plan ps entries (Ready n w ∷ ss) before now (CutsNext plan big k_tells base new)
+    cut_here part = record {
+      gone = h.gone;
+      left = h.left;
+      split = h.split;
+      stand = h.stand;
+      counts = h.counts;
+      says = λ told.
+          let own = part told in
+          let some : AppendsPart (base ++ flat_map (answer_bytes big) (answers_to plan h.gone)) new (answer_bytes big (written_view w)) =
+          (own.0, own.1, own.2 ∙ ap (λ (l : List ℕ). l ++ take own.0 (answer_bytes big (written_view w))) (h.says told)) in
+          (front.packet, front.others, front.split, subst (λ (a : Answered). AppendsPart (base ++ flat_map (answer_bytes big) (answers_to plan h.gone)) new (answer_bytes big a)) front.view some);
+    }
+
+-- ---- a capture of which more is written
+
+module _ (plan : Plan) (used : List Rec) (done waiting : List Numbered) (split : numbered 0 used ≡ done ++ waiting) where
+  pub within : length done ≤ length used
+  within = omega (arith, few_done used done waiting split)
+
+  -- what counts of the first of the answers
+  pub counts_first : (counts : Counts) → counts ≡ counts_of (answers_to plan done) → counts ≡ counts_of (take (length done) (answered_from plan 0 used))
+  counts_first counts is = is ∙ ap counts_of (sym (first_answers_to plan used done waiting split))
+
+  pub writes_first : (big : Bool) (base new : List ℕ) → new ≡ base ++ flat_map (answer_bytes big) (answers_to plan done)
+      → new ≡ base ++ flat_map (answer_bytes big) (take (length done) (answered_from plan 0 used))
+  writes_first big base new is = is ∙ ap (λ (l : List Answered). base ++ flat_map (answer_bytes big) l) (sym (first_answers_to plan used done waiting split))
+
+  module _ (entries : List (Entry Card)) (ss : List Slot) (before after : Counts) (Says : List Numbered → List Numbered → Type 0) (h : HasWritten plan waiting entries ss before after Says) where
+    pub split_now : numbered 0 used ≡ (done ++ h.gone) ++ h.left
+    split_now = split ∙ ap (λ (l : List Numbered). done ++ l) h.split ∙ sym (append_assoc done h.gone h.left)
+
+    pub counts_now : before ≡ counts_of (answers_to plan done) → after ≡ counts_of (answers_to plan (done ++ h.gone))
+    counts_now is = h.counts (answers_to plan done) is ∙ ap counts_of (sym (answers_to-append plan done h.gone))
+
+  bytes_then : (big : Bool) (base : List ℕ) (more : List Numbered)
+      → (base ++ flat_map (answer_bytes big) (answers_to plan done)) ++ flat_map (answer_bytes big) (answers_to plan more) ≡ base ++ flat_map (answer_bytes big) (answers_to plan (done ++ more))
+  bytes_then big base more =
+      append_assoc base (flat_map (answer_bytes big) (answers_to plan done)) (flat_map (answer_bytes big) (answers_to plan more))
+      ∙ ap (λ (l : List ℕ). base ++ l) (sym (flat_map-append (answer_bytes big) (answers_to plan done) (answers_to plan more)) ∙ ap (flat_map (answer_bytes big)) (sym (answers_to-append plan done more)))
+
+  pub writes_now : (big : Bool) (k_tells : Type 0) (base old new : List ℕ) (gone left : List Numbered) → (k_tells → old ≡ base ++ flat_map (answer_bytes big) (answers_to plan done))
+      → Appends plan big k_tells old new gone left → k_tells → new ≡ base ++ flat_map (answer_bytes big) (answers_to plan (done ++ gone))
+  writes_now big k_tells base old new gone left is more told =
+      more told ∙ ap (λ (l : List ℕ). l ++ flat_map (answer_bytes big) (answers_to plan gone)) (is told) ∙ bytes_then big base gone
+
+  pub cut_now : (big : Bool) (k_tells : Type 0) (base old new : List ℕ) (gone left : List Numbered) → numbered 0 used ≡ (done ++ gone) ++ left
+      → (k_tells → old ≡ base ++ flat_map (answer_bytes big) (answers_to plan done)) → CutsNext plan big k_tells old new gone left
+      → k_tells → CutAt big (answered_from plan 0 used) (length (done ++ gone)) base new
+  cut_now big k_tells base old new gone left now is cut told =
+      let c = cut told in
+      let first = first_answers_to plan used (done ++ gone) left now in
+      let wrote : old ++ flat_map (answer_bytes big) (answers_to plan gone) ≡ base ++ flat_map (answer_bytes big) (take (length (done ++ gone)) (answered_from plan 0 used)) =
+      ap (λ (l : List ℕ). l ++ flat_map (answer_bytes big) (answers_to plan gone)) (is told) ∙ bytes_then big base gone ∙ ap (λ (l : List Answered). base ++ flat_map (answer_bytes big) l) (sym first) in
+      record {
+        next = answered plan c.0.number c.0.rec;
+        others = answers_to plan c.1;
+        split = sym (answers_to-numbered plan 0 used) ∙ ap (answers_to plan) now ∙ answers_to-append plan (done ++ gone) left
+            ∙ ap (λ (l : List Numbered). answers_to plan (done ++ gone) ++ answers_to plan l) c.2
+            ∙ ap (λ (l : List Answered). l ++ answered plan c.0.number c.0.rec ∷ answers_to plan c.1) (sym first);
+        part = subst (λ (l : List ℕ). AppendsPart l new (answer_bytes big (answered plan c.0.number c.0.rec))) wrote c.3;
+      }

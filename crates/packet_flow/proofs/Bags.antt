@@ -10,10 +10,10 @@ use Rattle.crypto_op.specs.declared.spec.Card.{Card}
 use Rattle.crypto_op.specs.Burst.{Burst}
 use Rattle.crypto_op.specs.Op.{Entry}
 use Rattle.dev_core.specs.Burst.{with_ops}
-use Rattle.capture_io.specs.Capture.{Rec}
 use Rattle.session_file.specs.declared.plan.Plan.{Plan}
 use Rattle.packet_flow.specs.declared.slots.Slot.{Slot}
-use Rattle.packet_flow.specs.Slots.{IsBetween, IsFor}
+use Rattle.packet_flow.specs.Numbered.{Numbered}
+use Rattle.packet_flow.specs.Slots.{StandFor, IsFor}
 
 pub count-append : {X : Type 0} (p : X → Bool) (xs ys : List X) → count_by p (xs ++ ys) ≡ count_by p xs + count_by p ys
 count-append p xs ys = sum_by-append (λ y. cond (p y) 1 0) xs ys
@@ -22,31 +22,31 @@ count-permutation : {X : Type 0} (p : X → Bool) (xs ys : List X) → IsPermuta
 count-permutation p xs ys h = sum_by-IsPermutation (λ y. cond (p y) 1 0) xs ys h
 
 -- the entries in another order
-pub between_moved : (plan : Plan) (used : List Rec) (first : ℕ) (ss : List Slot) (xs ys : List (Entry Card)) → IsPermutation xs ys
-    → IsBetween plan used first ss xs → IsBetween plan used first ss ys
-between_moved plan used first ss xs ys h b = record {
-  begun = b.begun;
+pub stand_moved : (plan : Plan) (ps : List Numbered) (ss : List Slot) (xs ys : List (Entry Card)) → IsPermutation xs ys
+    → StandFor plan ps ss xs → StandFor plan ps ss ys
+stand_moved plan ps ss xs ys h b = record {
   slots = b.slots;
-  made = All-permutation (IsFor plan used) xs ys h b.made;
+  rising = b.rising;
+  made = All-permutation (IsFor plan ps) xs ys h b.made;
   waits = λ n. count-permutation (λ (e : Entry Card). e.cargo.packet == n) xs ys h ∙ b.waits n;
 }
 
 -- some of what was held came back
-pub came_back : (plan : Plan) (used : List Rec) (first : ℕ) (ss : List Slot) (back held held' rest : List (Entry Card)) → IsPermutation (back ++ held') held
-    → IsBetween plan used first ss (held ++ rest) → IsBetween plan used first ss (back ++ (held' ++ rest))
-came_back plan used first ss back held held' rest h b =
-    subst (IsBetween plan used first ss) (append_assoc back held' rest)
-    (between_moved plan used first ss (held ++ rest) ((back ++ held') ++ rest) (IsPermutation-append_left rest held (back ++ held') (IsPermutation-sym (back ++ held') held h)) b)
+pub came_back : (plan : Plan) (ps : List Numbered) (ss : List Slot) (back held held' rest : List (Entry Card)) → IsPermutation (back ++ held') held
+    → StandFor plan ps ss (held ++ rest) → StandFor plan ps ss (back ++ (held' ++ rest))
+came_back plan ps ss back held held' rest h b =
+    subst (StandFor plan ps ss) (append_assoc back held' rest)
+    (stand_moved plan ps ss (held ++ rest) ((back ++ held') ++ rest) (IsPermutation-append_left rest held (back ++ held') (IsPermutation-sym (back ++ held') held h)) b)
 
 -- the first of those that were offered are held too
-pub went_in : {X : Type 0} (f : X → Entry Card) (plan : Plan) (used : List Rec) (first n : ℕ) (ss : List Slot) (held held' : List (Entry Card)) (offered : List X)
-    → IsPermutation (held ++ map f (take n offered)) held' → IsBetween plan used first ss (held ++ map f offered) → IsBetween plan used first ss (held' ++ map f (drop n offered))
-went_in f plan used first n ss held held' offered h b =
+pub went_in : {X : Type 0} (f : X → Entry Card) (plan : Plan) (ps : List Numbered) (n : ℕ) (ss : List Slot) (held held' : List (Entry Card)) (offered : List X)
+    → IsPermutation (held ++ map f (take n offered)) held' → StandFor plan ps ss (held ++ map f offered) → StandFor plan ps ss (held' ++ map f (drop n offered))
+went_in f plan ps n ss held held' offered h b =
     let split : held ++ map f offered ≡ (held ++ map f (take n offered)) ++ map f (drop n offered) =
     ap (λ (l : List (Entry Card)). held ++ l) (ap (map f) (sym (take-append-drop n offered)) ∙ map-append f (take n offered) (drop n offered))
     ∙ sym (append_assoc held (map f (take n offered)) (map f (drop n offered))) in
-    between_moved plan used first ss ((held ++ map f (take n offered)) ++ map f (drop n offered)) (held' ++ map f (drop n offered))
-    (IsPermutation-append_left (map f (drop n offered)) (held ++ map f (take n offered)) held' h) (subst (IsBetween plan used first ss) split b)
+    stand_moved plan ps ss ((held ++ map f (take n offered)) ++ map f (drop n offered)) (held' ++ map f (drop n offered))
+    (IsPermutation-append_left (map f (drop n offered)) (held ++ map f (take n offered)) held' h) (subst (StandFor plan ps ss) split b)
 
 -- how many are held
 pub fewer_held : {X E : Type 0} (f : X → E) (xs : List X) (held held' : List E) (n : ℕ) → IsPermutation (map f xs ++ held') held → length xs ≡ n → n + length held' ≡ length held

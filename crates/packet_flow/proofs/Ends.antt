@@ -1,5 +1,5 @@
 -- How each way out of a flow meets what is said of its end.
-use Rattle.std.proofs.Common.{◌≡◌, ◌≤◌, ◌++◌, ◌∷◌, ◌+◌, ℕ, Bool, List, [], length, map, take, drop, refl, ap, sym, subst, ◌∙◌, arith, append_assoc, length-append, length-drop}
+use Rattle.std.proofs.Common.{◌≡◌, ◌≤◌, ◌++◌, ◌∷◌, ◌+◌, ℕ, Bool, List, [], length, map, take, refl, ap, sym, subst, ◌∙◌, arith, append_assoc, length-append}
 use Rattle.std.specs.List.{flat_map}
 use Rattle.std.specs.Prelude.{Option, None, Some}
 use Rattle.std.proofs.lemmas.List.{append-nil, take-append-le, take_all}
@@ -8,10 +8,9 @@ use Rattle.crypto_op.specs.declared.spec.Card.{Card}
 use Rattle.crypto_op.specs.declared.op.Op.{Op}
 use Rattle.dev_core.specs.declared.driver.LogEntry.{LogEntry}
 use Rattle.dev_core.specs.Burst.{log_entry}
-use Rattle.capture_io.specs.Capture.{Rec, Rest, Records, first_place, view}
+use Rattle.capture_io.specs.Capture.{Rec, Rest, Records, first_place}
 use Rattle.capture_io.specs.Pieces.{AppendsPart}
 use Rattle.capture_io.specs.declared.header.Place.{Place}
-use Rattle.capture_io.specs.declared.header.Record.{Record}
 use Rattle.capture_io.specs.declared.header.ReadStop.{ReadStop}
 use Rattle.capture_io.specs.declared.header.ReadStop.TheVariants.{Fault, BadCapture, OutOfMemory}
 use Rattle.session_file.specs.declared.plan.Plan.{Plan}
@@ -29,7 +28,7 @@ use Rattle.dev_core.specs.Calls.{Call}
 use Rattle.dev_core.specs.Offers.{Flows, taken_by}
 use Rattle.packet_flow.specs.Passage.{Before, Outside, HasTaken, IsEarly, IsUnderway, EndsAs}
 use Rattle.packet_flow.proofs.InSlots.{length-SlotsSay}
-use Rattle.packet_flow.proofs.Answers.{answered_from-append, length-answered_from}
+use Rattle.packet_flow.proofs.Answers.{answered_from-append, counts_first, few_done, length-answered_from, within, writes_first}
 use Rattle.packet_flow.proofs.Numbers.{entries_behind, entries_behind-none, entries_from-append}
 
 -- the records that were begun are the first of any reading
@@ -49,22 +48,22 @@ flows_any plan size past used rs offers more =
     subst (λ (l : List LogEntry). Flows size l past) (sym (entries_from-append plan used more.0) ∙ ap (entries_from plan 0) (sym more.1)) (offers (entries_behind plan used more.0))
 
 -- the records behind those that were begun: none, where the capture ended and none waits
-ended_here : (big : Bool) (bytes : List ℕ) (used : List Rec) (waiting : List Record) (place : Place) (left : List ℕ) (stop : Option ReadStop) → GoesOn big bytes (used ++ map view waiting) place left stop
+ended_here : (big : Bool) (bytes : List ℕ) (used waiting : List Rec) (place : Place) (left : List ℕ) (stop : Option ReadStop) → GoesOn big bytes (used ++ waiting) place left stop
     → ((s : ReadStop) → stop ≡ Some s → IsWholeStop s)
     → (rs : List Rec) (rest : Rest) → Records big first_place bytes rs rest → (more : List Rec) × (rs ≡ used ++ more) × ((s : ReadStop) → stop ≡ Some s → waiting ≡ [] → more ≡ [])
-ended_here big bytes used waiting place left None on whole rs rest all = let h = begun_first big bytes used (map view waiting) place left None on rs rest all in (h.0, h.1, λ s is none. absurd (let no : None ≡ Some s = is in cc))
-ended_here big bytes used waiting place left (Some ReadStop.End) on whole rs rest all = let h = on rs rest all in (map view waiting, h.0, λ s is none. ap (map view) none)
-ended_here big bytes used waiting place left (Some (BadCapture at cause)) on whole rs rest all = let h = on rs rest all in (map view waiting, h.0, λ s is none. ap (map view) none)
-ended_here big bytes used waiting place left (Some (ReadStop.TooLarge value)) on whole rs rest all = let h = on rs rest all in (map view waiting, h.0, λ s is none. ap (map view) none)
+ended_here big bytes used waiting place left None on whole rs rest all = let h = begun_first big bytes used waiting place left None on rs rest all in (h.0, h.1, λ s is none. absurd (let no : None ≡ Some s = is in cc))
+ended_here big bytes used waiting place left (Some ReadStop.End) on whole rs rest all = let h = on rs rest all in (waiting, h.0, λ s is none. none)
+ended_here big bytes used waiting place left (Some (BadCapture at cause)) on whole rs rest all = let h = on rs rest all in (waiting, h.0, λ s is none. none)
+ended_here big bytes used waiting place left (Some (ReadStop.TooLarge value)) on whole rs rest all = let h = on rs rest all in (waiting, h.0, λ s is none. none)
 ended_here big bytes used waiting place left (Some Fault) on whole rs rest all = absurd (whole Fault refl)
 ended_here big bytes used waiting place left (Some OutOfMemory) on whole rs rest all = absurd (whole OutOfMemory refl)
 
 -- the calls of a flow behind a turn, against the whole capture
 pub flows_behind : (plan : Plan) (b : Before) (s_tells k_tells : Type 0) (p : Passage) (o : Outside) (u : IsUnderway plan b s_tells k_tells p o) (now : List Call)
-    → ((more : List LogEntry) → ((stop : ReadStop) → p.stop ≡ Some stop → p.waiting.items ≡ [] → more ≡ []) → Flows b.size (entries_from plan 0 u.used ++ more) now)
+    → ((more : List LogEntry) → ((stop : ReadStop) → p.window.stop ≡ Some stop → p.window.waiting ≡ [] → more ≡ []) → Flows b.size (entries_from plan 0 u.used ++ more) now)
     → s_tells → (rs : List Rec) (rest : Rest) → Records b.big first_place b.bytes rs rest → Flows b.size (entries_from plan 0 rs) now
 flows_behind plan b s_tells k_tells p o u now offers told rs rest all =
-    let h = ended_here b.big b.bytes u.used p.waiting.items p.place o.left p.stop (u.reads told) (λ s is. (u.stopped s is).0) rs rest all in
+    let h = ended_here b.big b.bytes u.used p.window.waiting p.window.place o.left p.window.stop (u.reads told) (λ s is. (u.stopped s is).0) rs rest all in
     subst (λ (l : List LogEntry). Flows b.size l now) (sym (entries_from-append plan u.used h.0) ∙ ap (entries_from plan 0) (sym h.1))
     (offers (entries_behind plan u.used h.0) (λ s is none. ap (entries_behind plan u.used) (h.2 s is none) ∙ entries_behind-none plan u.used))
 
@@ -112,14 +111,16 @@ not_cut flow_end.OutOfMemory big answers n base new other is = is
 pub ends_early : (plan : Plan) (b : Before) (s_tells k_tells : Type 0) (p : Passage) (o : Outside) (end : FlowEnd) (counts : Counts) → IsEarly end → (end ≡ WriteFault → ⊥)
     → IsUnderway plan b s_tells k_tells p o → counts ≡ p.counts → EndsAs plan b s_tells k_tells end counts o
 ends_early plan b s_tells k_tells p o end counts early no_write u same st kt rs rest all =
-    let first = begun_first b.big b.bytes u.used _ p.place o.left p.stop (u.reads st) rs rest all in
+    let first = begun_first b.big b.bytes u.used p.window.waiting p.window.place o.left p.window.stop (u.reads st) rs rest all in
     let bytes = answer_bytes b.big in
-    let written : o.written ≡ b.base ++ flat_map bytes (take p.first (answered_from plan 0 (u.used ++ first.0))) =
-    u.writes kt ∙ ap (λ (l : List Answered). b.base ++ flat_map bytes l) (sym (first_answers plan u.used first.0 p.first u.between.begun)) in (
+    let n = length u.done in
+    let inside : n ≤ length u.used = within plan u.used u.done u.waiting u.split in
+    let written : o.written ≡ b.base ++ flat_map bytes (take n (answered_from plan 0 (u.used ++ first.0))) =
+    writes_first plan u.used u.done u.waiting u.split b.big b.base o.written (u.writes kt) ∙ ap (λ (l : List Answered). b.base ++ flat_map bytes l) (sym (first_answers plan u.used first.0 n inside)) in (
       u.taken,
       u.device,
-      flowed plan b.big rs rest end counts b.base o.written u.used first.0 u.taken _ p.first first.1 u.queued u.between.begun (same ∙ u.counts) early
-          (not_cut end b.big (answered_from plan 0 (u.used ++ first.0)) p.first b.base o.written no_write written),
+      flowed plan b.big rs rest end counts b.base o.written u.used first.0 u.taken _ n first.1 u.queued inside (counts_first plan u.used u.done u.waiting u.split counts (same ∙ u.counts)) early
+          (not_cut end b.big (answered_from plan 0 (u.used ++ first.0)) n b.base o.written no_write written),
       u.took,
       flows_now plan b s_tells k_tells p o u st rs rest all,
     )
@@ -166,24 +167,24 @@ read_whole used rs rest OutOfMemory whole reads = absurd whole
 
 -- nothing is left to do
 pub ends_whole : (plan : Plan) (b : Before) (s_tells k_tells : Type 0) (p : Passage) (o : Outside) (stop : ReadStop) → IsUnderway plan b s_tells k_tells p o
-    → p.stop ≡ Some stop → p.waiting.items ≡ [] → p.burst.ops ≡ [] → p.slots.items ≡ [] → EndsAs plan b s_tells k_tells (Stopped stop) p.counts o
+    → p.window.stop ≡ Some stop → p.window.waiting ≡ [] → p.burst.ops ≡ [] → p.slots ≡ [] → EndsAs plan b s_tells k_tells (Stopped stop) p.counts o
 ends_whole plan b s_tells k_tells p o stop u stopped read offered written told tells rs rest all =
-    let goes : GoesOn b.big b.bytes (u.used ++ map view p.waiting.items) p.place o.left (Some stop) =
-    subst (GoesOn b.big b.bytes (u.used ++ map view p.waiting.items) p.place o.left) stopped (u.reads told) in
-    let so_far : u.used ++ map view p.waiting.items ≡ u.used = ap (λ (l : List Record). u.used ++ map view l) read ∙ append-nil u.used in
+    let goes : GoesOn b.big b.bytes (u.used ++ p.window.waiting) p.window.place o.left (Some stop) =
+    subst (GoesOn b.big b.bytes (u.used ++ p.window.waiting) p.window.place o.left) stopped (u.reads told) in
+    let so_far : u.used ++ p.window.waiting ≡ u.used = ap (λ (l : List Rec). u.used ++ l) read ∙ append-nil u.used in
     let whole = read_whole u.used rs rest stop (u.stopped stop stopped).0 (subst (λ (l : List Rec). ReadsAs l stop rs rest) so_far (goes rs rest all)) in
-    let left : length p.slots.items ≡ length (drop p.first u.used) = length-SlotsSay plan p.first p.slots.items (drop p.first u.used) u.between.slots in
-    let n_is : p.first ≡ length u.used = omega (arith, u.between.begun, left, ap length written, length-drop p.first u.used) in
+    let left : length p.slots ≡ length u.waiting = length-SlotsSay plan p.slots u.waiting u.stand.slots in
+    let n_is : length u.done ≡ length u.used = omega (arith, few_done u.used u.done u.waiting u.split, left, ap length written) in
     let taken_is : u.taken ≡ entries_from plan 0 rs =
     sym (append-nil u.taken) ∙ ap (λ (l : List (Op Card)). u.taken ++ map log_entry l) (sym offered) ∙ u.queued ∙ ap (entries_from plan 0) (sym whole.0) in
-    let count : p.first ≡ length rs = n_is ∙ ap length (sym whole.0) in (
+    let count : length u.done ≡ length rs = n_is ∙ ap length (sym whole.0) in (
       u.taken,
       u.device,
       record {
-        n = p.first;
+        n = length u.done;
         within = omega (arith, count);
-        counts_are = u.counts ∙ ap (λ (l : List Rec). counts_of (take p.first (answered_from plan 0 l))) (sym whole.0);
-        written = u.writes tells ∙ ap (λ (l : List Rec). b.base ++ flat_map (answer_bytes b.big) (take p.first (answered_from plan 0 l))) (sym whole.0);
+        counts_are = counts_first plan u.used u.done u.waiting u.split p.counts u.counts ∙ ap (λ (l : List Rec). counts_of (take (length u.done) (answered_from plan 0 l))) (sym whole.0);
+        written = writes_first plan u.used u.done u.waiting u.split b.big b.base o.written (u.writes tells) ∙ ap (λ (l : List Rec). b.base ++ flat_map (answer_bytes b.big) (take (length u.done) (answered_from plan 0 l))) (sym whole.0);
         k = length (entries_from plan 0 rs);
         front = taken_is ∙ sym (take_all (length (entries_from plan 0 rs)) (entries_from plan 0 rs) (omega arith));
         whole = λ _. record { records = count; stop = whole.1; taken = taken_is };

@@ -1,7 +1,9 @@
+mod Rising
 mod InSlots
 mod Bags
 pub mod Answers
 pub mod Numbers
+mod Pushing
 mod Begun
 mod Ends
 mod Settling

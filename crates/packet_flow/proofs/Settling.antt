@@ -1,12 +1,11 @@
 -- An answer comes into the slot that waits for it.
-use Rattle.std.proofs.Common.{◌≡◌, ◌<◌, ◌≤◌, ◌+◌, ◌-◌, ◌==◌, ℕ, List, [], ◌∷◌, length, drop, get_or, set, zero, suc, refl, ap, sym, subst, ◌∙◌, arith}
+use Rattle.std.proofs.Common.{◌≡◌, ◌<◌, ◌==◌, ℕ, List, [], ◌∷◌, length, map, get_or, set, zero, suc, ap, sym, subst, ◌∙◌, arith}
 use Rattle.std.specs.List.{slice_get}
 use Rattle.std.specs.Prelude.{Some}
 use Rattle.std.proofs.lemmas.Option.{get_or_from_slice_get}
 use Rattle.std.proofs.lemmas.List.Elements.{All-head, All-tail}
 use Rattle.crypto_op.specs.declared.spec.Card.{Card}
 use Rattle.crypto_op.specs.Op.{Entry, input_of}
-use Rattle.capture_io.specs.Capture.{Rec}
 use Rattle.session_file.specs.declared.plan.Plan.{Plan}
 use Rattle.packet_plan.specs.declared.written.Kept.{Kept}
 use Rattle.packet_plan.specs.declared.written.Written.{Written}
@@ -15,62 +14,80 @@ use Rattle.packet_plan.specs.Answered.{answered}
 use Rattle.packet_plan.specs.Work.{kept_rec, written_view}
 use Rattle.packet_flow.specs.declared.slots.Slot.{Slot}
 use Rattle.packet_flow.specs.declared.slots.Slot.TheVariants.{Open, Ready}
-use Rattle.packet_flow.specs.Slots.{IsBetween, IsFor}
-use Rattle.packet_flow.proofs.InSlots.{WaitsAt, waits_at, count-cons, one, same_told, record_at_slot, SlotsSay-settled, times-settled}
+use Rattle.packet_flow.specs.Numbered.{Numbered, RisesFrom, numbers_of}
+use Rattle.packet_flow.specs.Slots.{StandFor, IsFor, number_of}
+use Rattle.packet_flow.proofs.InSlots.{WaitsAt, waits_at, count-cons, one, same_numbers, same_told, packet_at_slot, SlotsSay-settled, times-settled}
+use Rattle.packet_flow.proofs.Rising.{one_place}
 
-pub slice_get-drop : {X : Type 0} (n i : ℕ) (xs : List X) → slice_get (drop n xs) i ≡ slice_get xs (n + i)
-slice_get-drop zero i xs = let at : i ≡ zero + i = omega arith in ap (slice_get xs) at
-slice_get-drop (suc n) i [] = refl
-slice_get-drop (suc n) i (x ∷ xs) = let at : suc (n + i) ≡ suc n + i = omega arith in slice_get-drop n i xs ∙ ap (slice_get (x ∷ xs)) at
+pub slice_get-map : {X Y : Type 0} (f : X → Y) (xs : List X) (i : ℕ) (x : X) → slice_get xs i ≡ Some x → slice_get (map f xs) i ≡ Some (f x)
+slice_get-map f [] i x is = cc
+slice_get-map f (y ∷ ys) zero x is = let same : y ≡ x = cc in ap (λ (z : _). Some (f z)) same
+slice_get-map f (y ∷ ys) (suc i) x is = slice_get-map f ys i x is
 
-module _ (plan : Plan) (used : List Rec) (first : ℕ) (ss : List Slot) (e : Entry Card) (rest : List (Entry Card)) (b : IsBetween plan used first ss (e ∷ rest)) where
+pub slice_get-inside : {X : Type 0} (xs : List X) (i : ℕ) (x : X) → slice_get xs i ≡ Some x → i < length xs
+slice_get-inside [] i x is = cc
+slice_get-inside (y ∷ ys) zero x is = omega arith
+slice_get-inside (y ∷ ys) (suc i) x is = omega (arith, slice_get-inside ys i x is)
+
+-- the number of the slot at a place
+pub number_at : (ss : List Slot) (i : ℕ) (x : Slot) → i < length ss → x ≡ get_or ss i x → slice_get (map number_of ss) i ≡ Some (number_of x)
+number_at [] i x inside is = absurd (omega (arith, inside))
+number_at (s ∷ ss) zero x inside is = ap (λ (z : Slot). Some (number_of z)) (sym is)
+number_at (s ∷ ss) (suc i) x inside is = number_at ss i x (omega (arith, inside)) is
+
+module _ (plan : Plan) (ps : List Numbered) (ss : List Slot) (e : Entry Card) (rest : List (Entry Card)) (b : StandFor plan ps ss (e ∷ rest)) where
   abbrev number : ℕ
   number = e.cargo.packet
 
-  pub slot_of : WaitsAt first number ss
+  pub slot_of : WaitsAt number ss
   slot_of =
       let own = count-cons (λ (x : Entry Card). x.cargo.packet == number) e rest in
       let once : one (number == number) ≡ 1 = ap one (same_told number) in
-      waits_at first number ss (omega (arith, own, once, b.waits number))
+      waits_at number ss (omega (arith, own, once, b.waits number))
 
-  pub place_inside : (first ≤ number) × (number - first < length ss)
-  place_inside = omega (arith, slot_of.at, slot_of.inside)
+  pub rising_slots : RisesFrom 0 (map number_of ss)
+  rising_slots = subst (RisesFrom 0) (sym (same_numbers plan ss ps b.slots)) b.rising
 
-  module _ (place : ℕ) (at : place ≡ number - first) where
+  pub number_there : slice_get (map number_of ss) slot_of.i ≡ Some number
+  number_there = slice_get-map number_of ss slot_of.i (Open number slot_of.kept) slot_of.open_is
+
+  module _ (place : ℕ) (at : slice_get (map number_of ss) place ≡ Some number) where
     is_place : slot_of.i ≡ place
-    is_place = omega (arith, at, slot_of.at)
+    is_place = one_place 0 slot_of.i place number (map number_of ss) rising_slots number_there at
 
-    pub open_there : slice_get ss place ≡ Some (Open slot_of.kept)
-    open_there = subst (λ (i : ℕ). slice_get ss i ≡ Some (Open slot_of.kept)) is_place slot_of.open_is
+    pub place_inside : place < length ss
+    place_inside = omega (arith, slot_of.inside, is_place)
 
-    pub slot_is : (d x : Slot) → x ≡ get_or ss place d → x ≡ Open slot_of.kept
-    slot_is d x is = is ∙ get_or_from_slice_get ss place (Open slot_of.kept) d open_there
+    pub open_there : slice_get ss place ≡ Some (Open number slot_of.kept)
+    open_there = subst (λ (i : ℕ). slice_get ss i ≡ Some (Open number slot_of.kept)) is_place slot_of.open_is
 
-    pub kept_is : (d : Slot) (x : Slot) (kept : Kept) → x ≡ get_or ss place d → x ≡ Open kept → kept ≡ slot_of.kept
-    kept_is d x kept is own = let same : Open kept ≡ Open slot_of.kept = sym own ∙ slot_is d x is in cc
+    pub slot_is : (d x : Slot) → x ≡ get_or ss place d → x ≡ Open number slot_of.kept
+    slot_is d x is = is ∙ get_or_from_slice_get ss place (Open number slot_of.kept) d open_there
+
+    pub kept_is : (d : Slot) (x : Slot) (n : ℕ) (kept : Kept) → x ≡ get_or ss place d → x ≡ Open n kept → kept ≡ slot_of.kept
+    kept_is d x n kept is own = let same : Open n kept ≡ Open number slot_of.kept = sym own ∙ slot_is d x is in cc
 
     pub asked_there : (kept : Kept) → kept ≡ slot_of.kept → asked plan number (kept_rec kept).packet ≡ Works e.cargo (input_of e.request)
     asked_there kept same =
-        let mine = All-head (IsFor plan used) e rest b.made in
-        let there : slice_get used number ≡ Some (kept_rec slot_of.kept) =
-        ap (slice_get used) slot_of.at ∙ sym (slice_get-drop first slot_of.i used) ∙ record_at_slot plan first slot_of.i ss (drop first used) slot_of.kept b.slots slot_of.open_is in
-        let own : mine.0 ≡ kept_rec kept = (let both : Some mine.0 ≡ Some (kept_rec slot_of.kept) = sym mine.1 ∙ there in let r : mine.0 ≡ kept_rec slot_of.kept = cc in r ∙ ap kept_rec (sym same)) in
-        subst (λ (r : Rec). asked plan number r.packet ≡ Works e.cargo (input_of e.request)) own mine.2
+        let mine = All-head (IsFor plan ps) e rest b.made in
+        let packet : Numbered = record { number = number; rec = kept_rec slot_of.kept } in
+        let there : slice_get ps slot_of.i ≡ Some packet = packet_at_slot plan number slot_of.i ss ps slot_of.kept b.slots slot_of.open_is in
+        let numbers : slice_get (numbers_of ps) mine.i ≡ Some number = slice_get-map (λ (p : Numbered). p.number) ps mine.i mine.packet mine.there ∙ ap Some mine.number in
+        let same_place : mine.i ≡ slot_of.i = one_place 0 mine.i slot_of.i number (numbers_of ps) b.rising numbers (slice_get-map (λ (p : Numbered). p.number) ps slot_of.i packet there) in
+        let own : mine.packet ≡ packet = (let both : Some mine.packet ≡ Some packet = sym mine.there ∙ ap (slice_get ps) same_place ∙ there in cc) in
+        subst (λ (k : Kept). asked plan number (kept_rec k).packet ≡ Works e.cargo (input_of e.request)) (sym same)
+        (subst (λ (p : Numbered). asked plan p.number p.rec.packet ≡ Works e.cargo (input_of e.request)) own mine.asked)
 
-    pub settled : (kept : Kept) (w : Written) → kept ≡ slot_of.kept → written_view w ≡ answered plan number (kept_rec kept) → IsBetween plan used first (set ss place (Ready w)) rest
+    pub settled : (kept : Kept) (w : Written) → kept ≡ slot_of.kept → written_view w ≡ answered plan number (kept_rec kept) → StandFor plan ps (set ss place (Ready number w)) rest
     settled kept w same now =
         let here = open_there in
-        let number_is : number ≡ first + place = slot_of.at ∙ ap (λ (i : ℕ). first + i) is_place in
-        let view : written_view w ≡ answered plan (first + place) (kept_rec slot_of.kept) =
-        now ∙ ap (λ (k : Kept). answered plan number (kept_rec k)) same ∙ ap (λ (n : ℕ). answered plan n (kept_rec slot_of.kept)) number_is in
         record {
-          begun = b.begun;
-          slots = SlotsSay-settled plan first place ss (drop first used) slot_of.kept w b.slots here view;
-          made = All-tail (IsFor plan used) e rest b.made;
+          slots = SlotsSay-settled plan number place ss ps slot_of.kept w b.slots here (now ∙ ap (λ (k : Kept). answered plan number (kept_rec k)) same);
+          rising = b.rising;
+          made = All-tail (IsFor plan ps) e rest b.made;
           waits = λ n.
               let before = b.waits n in
               let own = count-cons (λ (x : Entry Card). x.cargo.packet == n) e rest in
-              let now = times-settled n first place ss slot_of.kept w here in
-              let same : one (number == n) ≡ one (first + place == n) = ap (λ (m : ℕ). one (m == n)) number_is in
-              omega (arith, before, own, now, same);
+              let after = times-settled n number place ss slot_of.kept w here in
+              omega (arith, before, own, after);
         }

@@ -2,7 +2,7 @@
 use Rattle.std.proofs.Common.{◌≡◌, ◌<◌, ◌≤◌, ◌+◌, ◌-◌, ◌*◌, ◌^◌, ◌==◌, ◌++◌, ◌⊎◌, inl, inr, ℕ, Bool, true, false, true≢false, eqb-true, zero, suc, List, [], ◌∷◌, length, map, take, drop, option_map, refl, ap, sym, subst, ◌∙◌, arith, append_assoc, length-append, length-take}
 use Rattle.std.specs.Int.{from_bool}
 use Rattle.std.specs.Prelude.{Option, None, Some, Result, Ok, Err, IfErr, IsErrAnd}
-use Rattle.std.specs.List.{All, flat_map}
+use Rattle.std.specs.List.{All}
 use Rattle.std.proofs.lemmas.Bool.Decides.{nat_tests}
 use Rattle.std.proofs.lemmas.List.{append-nil, nil_from_length, length-map, map-append, take-append-drop, take_all}
 use Rattle.std.proofs.lemmas.List.Sums.{count_by-le-length}
@@ -13,13 +13,9 @@ use Rattle.crypto_op.specs.Burst.{Burst}
 use Rattle.crypto_op.specs.Op.{Entry, IsFresh, entry_of}
 use Rattle.dev_core.specs.declared.driver.LogEntry.{LogEntry}
 use Rattle.dev_core.specs.Burst.{front_log, log_entry, rest_of}
-use Rattle.capture_io.specs.Capture.{Rec, first_place, view}
-use Rattle.capture_io.specs.Limits.{IsSmall}
-use Rattle.capture_io.specs.declared.header.Place.{Place}
+use Rattle.capture_io.specs.Capture.{Rec, first_place}
 use Rattle.capture_io.specs.declared.header.ReadStop.{ReadStop}
-use Rattle.capture_io.specs.declared.header.Record.{Record}
 use Rattle.session_file.specs.declared.plan.Plan.{Plan}
-use Rattle.packet_plan.specs.Answered.{Answered, answered_from}
 use Rattle.packet_flow.specs.declared.counts.Counts.{Counts}
 use Rattle.packet_flow.specs.declared.flow.FlowEnd.TheVariants as flow_end
 use Rattle.packet_flow.specs.declared.passage.Passage.{Passage}
@@ -27,24 +23,26 @@ use Rattle.packet_flow.specs.declared.slots.Slot.{Slot}
 use Rattle.packet_flow.specs.declared.slots.Slot.TheVariants.{Open, Ready}
 use Rattle.packet_flow.specs.Counts.{counts_of}
 use Rattle.packet_flow.specs.Entries.{entries_from}
-use Rattle.packet_flow.specs.Flowed.{CutAt, answer_bytes}
 use Rattle.std.proofs.Math.Seq.{take-append_seam, drop-append_seam}
 use Rattle.dev_core.specs.Calls.{Call}
 use Rattle.dev_core.specs.Offers.{Flows, IsDrained, next_burst, rest_of_burst, taken_by}
 use Rattle.packet_flow.specs.Turns.{IsAt, OnlyAsked, with_offer}
 use Rattle.packet_flow.specs.Passage.{Before, Outside, HasTaken, IsFilled, IsUnderway, EndsAs, IsNew}
 use Rattle.packet_flow.specs.Reads.{GoesOn, HasRead, IsWholeStop}
-use Rattle.packet_flow.specs.Slots.{IsBetween, SlotsSay, WaitsAtFront, open_numbers}
+use Rattle.packet_flow.specs.Numbered.{Numbered}
+use Rattle.packet_flow.specs.Slots.{StandFor, SlotsSay, WaitsAtFront, open_numbers}
+use Rattle.packet_flow.specs.Window.{Ahead, IsInRange, fresh_window}
 use Rattle.packet_flow.proofs.InSlots.{count-cons, one, same_told}
 use Rattle.packet_flow.proofs.Numbers.{entries_from-none, length-entries_from}
-use Rattle.packet_flow.proofs.WholeReading.{begun, read_on}
+use Rattle.packet_flow.proofs.Rising.{numbered-none}
+use Rattle.packet_flow.proofs.WholeReading.{begun}
 
 -- ---- how many there are
 
 module _ (plan : Plan) (b : Before) (s_tells k_tells : Type 0) (p : Passage) (o : Outside) (u : IsUnderway plan b s_tells k_tells p o) where
   pub few_taken : length u.taken + length p.burst.ops < 2 ^ 32
   few_taken =
-      omega (arith, ap length u.queued, length-append u.taken (map log_entry p.burst.ops), length-map p.burst.ops (log_entry {C = Card}), length-entries_from plan 0 u.used, u.count, u.range)
+      omega (arith, ap length u.queued, length-append u.taken (map log_entry p.burst.ops), length-map p.burst.ops (log_entry {C = Card}), length-entries_from plan 0 u.used, u.next, u.range.count, u.range.range)
 
   pub few_held : length o.held + length p.burst.ops < 2 ^ 32
   few_held = omega (arith, few_taken, u.few)
@@ -89,39 +87,24 @@ moved_by n m held held' taken ops enqueued enqueued' within few count is now =
 
 -- ---- what waits at the front is held, or in the burst
 
-front_some : (plan : Plan) (used : List Rec) (first : ℕ) (ss : List Slot) (entries : List (Entry Card)) → WaitsAtFront ss → 0 < length ss
-    → IsBetween plan used first ss entries → 0 < length entries
+front_some : (plan : Plan) (ps : List Numbered) (ss : List Slot) (entries : List (Entry Card)) → WaitsAtFront ss → 0 < length ss
+    → StandFor plan ps ss entries → 0 < length entries
 unfolding open_numbers
-front_some plan used first [] entries waits some b = absurd (omega (arith, some))
-front_some plan used first (Open kept ∷ ss) entries waits some b =
-    let own = count-cons (λ (x : ℕ). x == first) first (open_numbers (first + 1) ss) in
-    let once : one (first == first) ≡ 1 = ap one (same_told first) in
-    omega (arith, own, once, b.waits first, count_by-le-length (λ (e : Entry Card). e.cargo.packet == first) entries)
-front_some plan used first (Ready w ∷ ss) entries waits some b = absurd waits
+front_some plan ps [] entries waits some b = absurd (omega (arith, some))
+front_some plan ps (Open n kept ∷ ss) entries waits some b =
+    let own = count-cons (λ (x : ℕ). x == n) n (open_numbers ss) in
+    let once : one (n == n) ≡ 1 = ap one (same_told n) in
+    omega (arith, own, once, b.waits n, count_by-le-length (λ (e : Entry Card). e.cargo.packet == n) entries)
+front_some plan ps (Ready n w ∷ ss) entries waits some b = absurd waits
 
-pub some_moves : {X : Type 0} (f : X → Entry Card) (plan : Plan) (used : List Rec) (first : ℕ) (ss : List Slot) (held : List (Entry Card)) (ops : List X) → WaitsAtFront ss → 0 < length ss
-    → IsBetween plan used first ss (held ++ map f ops) → 0 < length held + length ops
-some_moves f plan used first ss held ops waits some b =
-    omega (arith, front_some plan used first ss (held ++ map f ops) waits some b, length-append held (map f ops), length-map ops f)
-
--- ---- what is written, in the byte order of the capture
-
-pub written_by : (big big' : Bool) → big ≡ big' → (answers : List Answered) (n m : ℕ) (base old new : List ℕ) → old ≡ base ++ flat_map (answer_bytes big) (take n answers)
-    → (old ≡ base ++ flat_map (answer_bytes big') (take n answers) → new ≡ base ++ flat_map (answer_bytes big') (take m answers))
-    → new ≡ base ++ flat_map (answer_bytes big) (take m answers)
-written_by big big' same answers n m base old new is next =
-    let order : (k : ℕ) → base ++ flat_map (answer_bytes big) (take k answers) ≡ base ++ flat_map (answer_bytes big') (take k answers) =
-    λ k. ap (λ (x : Bool). base ++ flat_map (answer_bytes x) (take k answers)) same in
-    next (is ∙ order n) ∙ sym (order m)
-
-pub cut_by : (big big' : Bool) → big ≡ big' → (answers : List Answered) (n m : ℕ) (base old new : List ℕ) → old ≡ base ++ flat_map (answer_bytes big) (take n answers)
-    → (old ≡ base ++ flat_map (answer_bytes big') (take n answers) → CutAt big' answers m base new) → CutAt big answers m base new
-cut_by big big' same answers n m base old new is next =
-    subst (λ (x : Bool). CutAt x answers m base new) (sym same) (next (is ∙ ap (λ (x : Bool). base ++ flat_map (answer_bytes x) (take n answers)) same))
+pub some_moves : {X : Type 0} (f : X → Entry Card) (plan : Plan) (ps : List Numbered) (ss : List Slot) (held : List (Entry Card)) (ops : List X) → WaitsAtFront ss → 0 < length ss
+    → StandFor plan ps ss (held ++ map f ops) → 0 < length held + length ops
+some_moves f plan ps ss held ops waits some b =
+    omega (arith, front_some plan ps ss (held ++ map f ops) waits some b, length-append held (map f ops), length-map ops f)
 
 -- ---- nothing is left to do
 
-pub all_read : (n : ℕ) (waiting : List Record) (stop : Option ReadStop) → (0 < n) ⊎ ((waiting ≡ []) × (s : ReadStop) × (stop ≡ Some s)) → n ≡ 0 → waiting ≡ []
+pub all_read : (n : ℕ) (waiting : List Rec) (stop : Option ReadStop) → (0 < n) ⊎ ((waiting ≡ []) × (s : ReadStop) × (stop ≡ Some s)) → n ≡ 0 → waiting ≡ []
 all_read n waiting stop (inl some) none = absurd (omega (arith, some, none))
 all_read n waiting stop (inr read) none = read.0
 
@@ -197,21 +180,15 @@ ends_unbegun plan b s_tells k_tells o counts no_call device written same told te
   subst (Flows b.size (entries_from plan 0 rs)) (sym no_call) tt,
 )
 
-none_between : (plan : Plan) (first : ℕ) (ss : List Slot) (entries : List (Entry Card)) → first ≡ 0 → ss ≡ [] → entries ≡ [] → IsBetween plan [] first ss entries
+none_stand : (plan : Plan) (ss : List Slot) (entries : List (Entry Card)) → ss ≡ [] → entries ≡ [] → StandFor plan [] ss entries
 unfolding SlotsSay open_numbers
-none_between plan first ss entries first_is ss_are entries_are =
-    let at_first : IsBetween plan [] 0 [] [] = record { begun = omega arith; slots = tt; made = λ k d lt. absurd (omega (arith, lt)); waits = λ n. refl } in
-    subst (λ (n : ℕ). IsBetween plan [] n ss entries) (sym first_is) (subst (λ (l : List Slot). IsBetween plan [] 0 l entries) (sym ss_are) (subst (IsBetween plan [] 0 []) (sym entries_are) at_first))
+none_stand plan ss entries ss_are entries_are =
+    let none : StandFor plan [] [] [] = record { slots = tt; rising = tt; made = λ k d lt. absurd (omega (arith, lt)); waits = λ n. refl } in
+    subst (λ (l : List Slot). StandFor plan [] l entries) (sym ss_are) (subst (StandFor plan [] []) (sym entries_are) none)
 
-none_read : (big : Bool) (bytes left : List ℕ) (place : Place) (waiting : List Record) (stop : Option ReadStop) → place ≡ first_place → left ≡ bytes → waiting ≡ [] → stop ≡ None
-    → GoesOn big bytes ([] ++ map view waiting) place left stop
-none_read big bytes left place waiting stop place_is left_is waiting_is stop_is =
-    subst (GoesOn big bytes ([] ++ map view waiting) place left) (sym stop_is)
-    (read_on big bytes left [] ([] ++ map view waiting) first_place place (ap (map view) waiting_is) place_is (subst (HasRead big bytes [] first_place) (sym left_is) (begun big bytes)))
-
-none_written : (big : Bool) (plan : Plan) (n : ℕ) (base new : List ℕ) → n ≡ 0 → new ≡ base → new ≡ base ++ flat_map (answer_bytes big) (take n (answered_from plan 0 []))
-none_written big plan n base new none is =
-    is ∙ sym (append-nil base) ∙ ap (λ (k : ℕ). base ++ flat_map (answer_bytes big) (take k (answered_from plan 0 []))) (sym none)
+none_read : (big : Bool) (bytes left : List ℕ) (w : Ahead) → w ≡ fresh_window → left ≡ bytes → GoesOn big bytes ([] ++ w.waiting) w.place left w.stop
+none_read big bytes left w is left_is =
+    subst (λ (x : Ahead). GoesOn big bytes ([] ++ x.waiting) x.place left x.stop) (sym is) (subst (HasRead big bytes [] first_place) (sym left_is) (begun big bytes))
 
 pub new_underway : (plan : Plan) (b : Before) (s_tells k_tells : Type 0) (size : ℕ) (p : Passage) (o : Outside) → 1 ≤ size → b.size ≡ size → o.past ≡ [] → IsNew size p → HasTaken b [] o.enqueued o.log
     → o.left ≡ b.bytes → o.written ≡ b.base → o.held ≡ [] → IsUnderway plan b s_tells k_tells p o
@@ -220,23 +197,24 @@ new_underway plan b s_tells k_tells size p o some size_is no_call new device lef
     let offered : map (log_entry {C = Card}) p.burst.ops ≡ [] = ap (map log_entry) burst in
     record {
       used = [];
+      done = [];
+      waiting = [];
       taken = [];
-      reads = λ told. none_read b.big b.bytes o.left p.place p.waiting.items p.stop new.place left new.waiting new.stop;
-      writes = λ told. none_written b.big plan p.first b.base o.written new.first written;
-      between = none_between plan p.first p.slots.items (o.held ++ map entry_of p.burst.ops) new.first new.slots
+      split = numbered-none 0;
+      reads = λ told. none_read b.big b.bytes o.left p.window new.window left;
+      writes = λ told. written ∙ sym (append-nil b.base);
+      stand = none_stand plan p.slots (o.held ++ map entry_of p.burst.ops) new.slots
           (ap (λ (l : List (Entry Card)). l ++ map entry_of p.burst.ops) held ∙ ap (map entry_of) burst);
-      counts = new.counts ∙ ap (λ (k : ℕ). counts_of (take k (answered_from plan 0 []))) (sym new.first);
+      counts = new.counts;
       made = new.made ∙ ap length (sym (entries_from-none plan));
       queued = offered ∙ sym (entries_from-none plan);
       device = device;
       few = omega (arith, ap length held);
       fresh = subst (All IsFresh) (sym burst) (λ k d lt. absurd (omega (arith, lt)));
       front = subst WaitsAtFront (sym new.slots) tt;
-      stopped = λ stop is. absurd (let no : Some stop ≡ None = sym is ∙ new.stop in cc);
-      small = subst (All IsSmall) (sym new.waiting) (λ k d lt. absurd (omega (arith, lt)));
-      count = omega (arith, ap length new.waiting, ap (λ (x : Place). x.records) new.place);
-      range = omega (arith, ap (λ (x : Place). x.records) new.place);
-      place = omega (arith, ap (λ (x : Place). x.at) new.place);
+      stopped = λ stop is. absurd (let no : Some stop ≡ None = sym is ∙ ap (λ (x : Ahead). x.stop) new.window in cc);
+      next = ap (λ (x : Ahead). x.next) new.window;
+      range = subst IsInRange (sym new.window) (record { count = omega arith; range = omega arith });
       back = ap (λ (x : Burst (Op Card)). x.ops) new.back;
       sizes = (ap (λ (x : Burst (Op Card)). x.cap) new.burst ∙ sym size_is, ap (λ (x : Burst (Op Card)). x.cap) new.back ∙ sym size_is, omega (arith, some, size_is));
       took = ap taken_by (sym no_call);
@@ -281,7 +259,7 @@ rest_with [] (suc n) past none = none refl
 rest_with (e ∷ es) n past none = refl
 
 module _ (plan : Plan) (b : Before) (s_tells k_tells : Type 0) (old p : Passage) (o : Outside) (u : IsUnderway plan b s_tells k_tells p o) (at : IsAt o.past old.burst.ops) (filled : IsFilled old p) where
-  right_burst : (more : List LogEntry) → ((stop : ReadStop) → p.stop ≡ Some stop → p.waiting.items ≡ [] → more ≡ [])
+  right_burst : (more : List LogEntry) → ((stop : ReadStop) → p.window.stop ≡ Some stop → p.window.waiting ≡ [] → more ≡ [])
       → map log_entry p.burst.ops ≡ next_burst b.size (entries_from plan 0 u.used ++ more) (taken_by o.past) (rest_of_burst o.past)
   right_burst more none = elim filled [
     | inl same ↦
@@ -300,7 +278,7 @@ module _ (plan : Plan) (b : Before) (s_tells k_tells : Type 0) (old p : Passage)
 
   -- the calls of a turn go on as they should
   pub offers_on : (n : ℕ) (now : List Call) → n ≤ length p.burst.ops → OnlyAsked (with_offer (map log_entry p.burst.ops) n o.past) now
-      → (more : List LogEntry) → ((stop : ReadStop) → p.stop ≡ Some stop → p.waiting.items ≡ [] → more ≡ []) → Flows b.size (entries_from plan 0 u.used ++ more) now
+      → (more : List LogEntry) → ((stop : ReadStop) → p.window.stop ≡ Some stop → p.window.waiting ≡ [] → more ≡ []) → Flows b.size (entries_from plan 0 u.used ++ more) now
   offers_on n now within asked more none =
       asked.flows b.size (entries_from plan 0 u.used ++ more)
       (flows_with b.size (entries_from plan 0 u.used ++ more) (map log_entry p.burst.ops) n o.past (right_burst more none) (omega (arith, within, length-map p.burst.ops (log_entry {C = Card}))) at.drained (u.offers more none))

@@ -1,8 +1,12 @@
 pub mod Reads
 pub mod Counts
+pub mod Numbered
+pub mod Window
+pub mod Packet
 pub mod Slots
 pub mod Turns
 pub mod Entries
 pub mod Flowed
+pub mod Writing
 pub mod Passage
 pub mod Filling

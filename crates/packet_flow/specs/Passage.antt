@@ -1,5 +1,5 @@
 -- A capture on its way: what was read, begun, taken and written so far.
-use Rattle.std.specs.Prelude.{◌≡◌, ◌<◌, ◌≤◌, ◌+◌, ◌*◌, ◌^◌, ◌++◌, ◌⊎◌, ℕ, Bool, List, [], length, map, take, Option, None, Some, option_map}
+use Rattle.std.specs.Prelude.{◌≡◌, ◌<◌, ◌≤◌, ◌++◌, ◌⊎◌, ℕ, Bool, List, [], length, map, Option, Some, option_map}
 use Rattle.std.specs.List.{All, flat_map}
 use Rattle.crypto_model.specs.Counts.{capped}
 use Rattle.crypto_op.specs.declared.spec.Card.{Card}
@@ -7,10 +7,8 @@ use Rattle.crypto_op.specs.Op.{Entry, IsFresh, entry_of}
 use Rattle.dev_core.specs.declared.driver.LogEntry.{LogEntry}
 use Rattle.dev_core.specs.declared.stats.Stats.{Stats}
 use Rattle.dev_core.specs.Burst.{log_entry}
-use Rattle.capture_io.specs.Capture.{Rec, Rest, Records, first_place, view}
-use Rattle.capture_io.specs.Limits.{IsSmall}
+use Rattle.capture_io.specs.Capture.{Rec, Rest, Records, first_place}
 use Rattle.session_file.specs.declared.plan.Plan.{Plan}
-use Rattle.packet_plan.specs.Answered.{answered_from}
 use Rattle.packet_flow.specs.declared.counts.Counts.{Counts}
 use Rattle.packet_flow.specs.declared.passage.Passage.{Passage}
 use Rattle.packet_flow.specs.declared.flow.FlowEnd.{FlowEnd}
@@ -21,7 +19,9 @@ use Rattle.dev_core.specs.Offers.{Flows, taken_by}
 use Rattle.packet_flow.specs.Flowed.{EndsWhole, Flowed, answer_bytes}
 use Rattle.capture_io.specs.declared.header.ReadStop.{ReadStop}
 use Rattle.packet_flow.specs.Reads.{GoesOn, IsWholeStop}
-use Rattle.packet_flow.specs.Slots.{IsBetween, WaitsAtFront}
+use Rattle.packet_flow.specs.Numbered.{Numbered, answers_to, numbered}
+use Rattle.packet_flow.specs.Slots.{StandFor, WaitsAtFront}
+use Rattle.packet_flow.specs.Window.{IsInRange, fresh_window}
 
 -- what there was before the first packet: the capture behind its header, what was written, the driver's log, and the
 -- burst size
@@ -53,30 +53,31 @@ pub record HasTaken (b : Before) (taken : List LogEntry) (enqueued : ℕ) (log :
   pub enqueued_is : enqueued ≡ capped (length taken)
   pub log_is : log ≡ option_map (λ l. taken) b.log
 
--- On the way: `used` are the records that were begun, and `taken` the operations that the driver took. What was
--- read or written is known where source or sink tell it.
+-- On the way: `used` are the records that were begun, of which those of `done` are written, and `taken` are the
+-- operations that the driver took. What was read or written is known where source or sink tell it.
 pub record IsUnderway (plan : Plan) (b : Before) (s_tells k_tells : Type 0) (p : Passage) (o : Outside) : Type 0 where
   pub used : List Rec
+  pub done : List Numbered
+  pub waiting : List Numbered
   pub taken : List LogEntry
-  pub reads : s_tells → GoesOn b.big b.bytes (used ++ map view p.waiting.items) p.place o.left p.stop
-  pub writes : k_tells → o.written ≡ b.base ++ flat_map (answer_bytes b.big) (take p.first (answered_from plan 0 used))
-  pub between : IsBetween plan used p.first p.slots.items (o.held ++ map entry_of p.burst.ops)
-  pub counts : p.counts ≡ counts_of (take p.first (answered_from plan 0 used))
+  pub split : numbered 0 used ≡ done ++ waiting
+  pub reads : s_tells → GoesOn b.big b.bytes (used ++ p.window.waiting) p.window.place o.left p.window.stop
+  pub writes : k_tells → o.written ≡ b.base ++ flat_map (answer_bytes b.big) (answers_to plan done)
+  pub stand : StandFor plan waiting p.slots (o.held ++ map entry_of p.burst.ops)
+  pub counts : p.counts ≡ counts_of (answers_to plan done)
   pub made : p.made ≡ length (entries_from plan 0 used)
   pub queued : taken ++ map log_entry p.burst.ops ≡ entries_from plan 0 used
   pub device : HasTaken b taken o.enqueued o.log
   pub few : length o.held ≤ length taken
   pub fresh : All IsFresh p.burst.ops
-  pub front : WaitsAtFront p.slots.items
-  pub stopped : (stop : ReadStop) → p.stop ≡ Some stop → IsWholeStop stop × (s_tells → stop ≡ ReadStop.End → o.left ≡ [])
-  pub small : All IsSmall p.waiting.items
-  pub count : length used + length p.waiting.items ≡ p.place.records
-  pub range : p.place.records < 2 ^ 32
-  pub place : p.place.at ≤ 24 + 262160 * p.place.records
+  pub front : WaitsAtFront p.slots
+  pub stopped : (stop : ReadStop) → p.window.stop ≡ Some stop → IsWholeStop stop × (s_tells → stop ≡ ReadStop.End → o.left ≡ [])
+  pub next : p.window.next ≡ length used
+  pub range : IsInRange p.window
   pub back : p.back.ops ≡ []
   pub sizes : (p.burst.cap ≡ b.size) × (p.back.cap ≡ b.size) × (0 < b.size)
   pub took : length taken ≡ taken_by o.past
-  pub offers : (more : List LogEntry) → ((stop : ReadStop) → p.stop ≡ Some stop → p.waiting.items ≡ [] → more ≡ []) → Flows b.size (entries_from plan 0 used ++ more) o.past
+  pub offers : (more : List LogEntry) → ((stop : ReadStop) → p.window.stop ≡ Some stop → p.window.waiting ≡ [] → more ≡ []) → Flows b.size (entries_from plan 0 used ++ more) o.past
 
 -- It ended so, by every reading of the capture.
 abbrev pub EndsAs : Plan → Before → Type 0 → Type 0 → FlowEnd → Counts → Outside → Type 0
@@ -87,15 +88,12 @@ EndsAs plan b s_tells k_tells end counts o = s_tells → k_tells → (rs : List 
 -- The burst is as it was, where something was left of it. Else it is full, or the capture ended.
 abbrev pub IsFilled : Passage → Passage → Type 0
 IsFilled old new = ((0 < length old.burst.ops) × (new.burst ≡ old.burst))
-    ⊎ ((old.burst.ops ≡ []) × (length new.burst.ops ≤ new.burst.cap) × ((length new.burst.ops ≡ new.burst.cap) ⊎ ((new.waiting.items ≡ []) × (stop : ReadStop) × (new.stop ≡ Some stop))))
+    ⊎ ((old.burst.ops ≡ []) × (length new.burst.ops ≤ new.burst.cap) × ((length new.burst.ops ≡ new.burst.cap) ⊎ ((new.window.waiting ≡ []) × (stop : ReadStop) × (new.window.stop ≡ Some stop))))
 
 -- nothing is read yet
 pub record IsNew (size : ℕ) (p : Passage) : Type 0 where
-  pub place : p.place ≡ first_place
-  pub stop : p.stop ≡ None
-  pub waiting : p.waiting.items ≡ []
-  pub slots : p.slots.items ≡ []
-  pub first : p.first ≡ 0
+  pub window : p.window ≡ fresh_window
+  pub slots : p.slots ≡ []
   pub made : p.made ≡ 0
   pub counts : p.counts ≡ counts_of []
   pub burst : p.burst ≡ record { cap = size; ops = [] }

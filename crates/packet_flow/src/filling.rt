@@ -1,53 +1,44 @@
 //! Records are begun, until a burst is full or the capture ends.
 ghost use Rattle.std.specs.Prelude.{◌≡◌, ◌<◌, ◌≤◌, ◌+◌, ◌^◌, ◌⊎◌, [], length, IfErr, OnOk, Some, None, Err};
 ghost use Rattle.crypto_model.specs.Counts.{Rose};
-ghost use Rattle.capture_io.specs.Capture.{view};
 ghost use Rattle.capture_io.specs.Limits.{IsSmall};
 ghost use Rattle.packet_flow.specs.Passage.{Before, EndsAs, IsEarly, IsFilled, IsUnderway, Outside};
 ghost use Rattle.capture_io.specs.declared.header.ReadStop.{ReadStop};
 ghost use Rattle.packet_flow.specs.Filling.{AddsSlot, left_to_begin};
+ghost use Rattle.packet_flow.specs.Packet.{numbered_view};
 
 use crate::flow::FlowEnd;
 use crate::passage::Passage;
-use crate::reading::read_window;
-use crate::slots::Slot;
-use crate::writing::write_ready;
-use capture_io::{Header, ReadStop, Record, Sink, Source};
+use crate::slots::Slots;
+use crate::window::Packet;
+use capture_io::{Header, ReadStop, Sink, Source};
 use crypto_model::OutOfMemory;
 use crypto_op::{Card, OpBurst};
-use packet_plan::{ReadyPlan, Work};
+use packet_plan::ReadyPlan;
 use std::alloc::Global;
-use std::collections::VecDeque;
 
-// Begins record `n`: it gets the next slot and, where it needs one, an operation of the burst, whose number is how many
+// So many packets are read before the next of them is begun.
+const WINDOW: usize = 16;
+
+// Begins a packet: it gets the next slot and, where it needs one, an operation of the burst, whose number is how many
 // were made before.
 fn begin(
     alloc: Global,
     plan: &ReadyPlan,
-    n: u32,
-    rec: Record,
+    packet: Packet,
     made: &mut u64,
-    slots: &mut VecDeque<Slot>,
+    slots: &mut Slots,
     burst: &mut OpBurst<Card>,
 ) -> Result<(), OutOfMemory>
-    requires small { IsSmall rec }
+    requires small { IsSmall packet.rec }
     requires few { made.old < 2 ^ 32 }
     requires room { length burst.old.ops < burst.old.cap }
-    ensures { OnOk result (AddsSlot plan.now n (view rec) made.old made.new slots.old.items slots.new.items burst.old burst.new) }
+    ensures { OnOk result (AddsSlot plan.now (numbered_view packet) made.old made.new slots.old slots.new burst.old burst.new) }
 {
-    match plan.begin(alloc, n, *made, rec)? {
-        Work::Ready(written) => {
-            let Ok(()) = slots.push_back(Slot::Ready(written)) else {
-                return Err(OutOfMemory);
-            };
-        }
-        Work::Needs(kept, op) => {
-            let Ok(()) = slots.push_back(Slot::Open(kept)) else {
-                return Err(OutOfMemory);
-            };
-            burst.push(op);
-            *made += 1;
-        }
+    let work = plan.begin(alloc, packet.number, *made, packet.rec)?;
+    if let Some(op) = slots.push(packet.number, work)? {
+        burst.push(op);
+        *made += 1;
     }
     Ok(())
 }
@@ -64,7 +55,7 @@ fn advance<S: Source, K: Sink>(
     requires underway { (b : Before) × (o : Outside) × (b.big ≡ header.now.big) × (o.left ≡ S.left src.old) × (o.written ≡ K.written out.old)
         × IsUnderway plan.now b S.tells K.tells passage.old o }
     requires room { length passage.old.burst.ops < passage.old.burst.cap }
-    requires some { (0 < length passage.old.waiting.items) ⊎ (passage.old.stop ≡ None) }
+    requires some { (0 < length passage.old.window.waiting) ⊎ (passage.old.window.stop ≡ None) }
     ensures underway { (b : Before) (o : Outside) → b.big ≡ header.now.big → o.left ≡ S.left src.old → o.written ≡ K.written out.old
         → IsUnderway plan.now b S.tells K.tells passage.old o
         → OnOk result (IsUnderway plan.now b S.tells K.tells passage.new (record o { left = S.left src.new; written = K.written out.new })) }
@@ -80,9 +71,11 @@ fn advance<S: Source, K: Sink>(
     ensures early { IfErr result IsEarly }
     ensures never { ¬ (result ≡ Err FlowEnd.Stalled) }
 {
-    let Some(rec) = passage.waiting.pop_front() else {
-        passage.stop = read_window(alloc, src, header, &mut passage.place, &mut passage.waiting);
-        let Some(stop) = passage.stop else {
+    let Some(packet) = passage.window.take() else {
+        let read = passage
+            .window
+            .read(alloc, src, header, &mut passage.store, WINDOW);
+        let Some(stop) = read else {
             return Ok(());
         };
         return match stop {
@@ -91,23 +84,15 @@ fn advance<S: Source, K: Sink>(
             _ => Ok(()),
         };
     };
-    let n = passage.first + passage.slots.len() as u32;
     begin(
         alloc,
         plan,
-        n,
-        rec,
+        packet,
         &mut passage.made,
         &mut passage.slots,
         &mut passage.burst,
     )?;
-    write_ready(
-        out,
-        header,
-        &mut passage.slots,
-        &mut passage.first,
-        &mut passage.counts,
-    )?;
+    passage.slots.write_ready(out, header, &mut passage.counts)?;
     Ok(())
 }
 
@@ -130,7 +115,7 @@ pub(crate) fn fill<S: Source, K: Sink>(
         → IsUnderway plan.now b S.tells K.tells passage.old o
         → IfErr result (λ end. EndsAs plan.now b S.tells K.tells end passage.new.counts (record o { left = S.left src.new; written = K.written out.new })) }
     ensures filled { OnOk result (IsFilled passage.old passage.new) }
-    ensures full { OnOk result ((0 < length passage.new.burst.ops) ⊎ ((passage.new.waiting.items ≡ []) × (stop : ReadStop) × (passage.new.stop ≡ Some stop))) }
+    ensures full { OnOk result ((0 < length passage.new.burst.ops) ⊎ ((passage.new.window.waiting ≡ []) × (stop : ReadStop) × (passage.new.window.stop ≡ Some stop))) }
     ensures read_later { S.faults src.old ≤ S.faults src.new }
     ensures read_cause { result ≡ Err (FlowEnd.Stopped ReadStop.Fault) → Rose (S.faults src.old) (S.faults src.new) }
     ensures write_later { K.faults out.old ≤ K.faults out.new }
@@ -142,7 +127,9 @@ pub(crate) fn fill<S: Source, K: Sink>(
     if passage.burst.len() > 0 {
         return Ok(());
     }
-    while passage.burst.room() > 0 && (!passage.waiting.is_empty() || passage.stop.is_none()) {
+    while passage.burst.room() > 0
+        && (!passage.window.is_empty() || passage.window.stop().is_none())
+    {
         advance(alloc, plan, header, src, out, passage)?;
     }
     Ok(())

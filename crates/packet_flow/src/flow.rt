@@ -12,7 +12,6 @@ use crate::counts::Counts;
 use crate::filling::fill;
 use crate::passage::Passage;
 use crate::turn::turn;
-use crate::writing::write_ready;
 use capture_io::{Header, ReadStop, Sink, Source, WriteFault};
 use crypto_model::OutOfMemory;
 use crypto_op::Card;
@@ -98,7 +97,7 @@ fn step<S: Source, K: Sink, D: Driver<Card>>(
 {
     fill(alloc, plan, header, src, out, passage)?;
     if passage.burst.len() == 0 && passage.slots.is_empty() {
-        return match passage.stop {
+        return match passage.window.stop() {
             Some(stop) => Err(FlowEnd::Stopped(stop)),
             None => unreachable!(),
         };
@@ -108,16 +107,9 @@ fn step<S: Source, K: Sink, D: Driver<Card>>(
         dev,
         &mut passage.burst,
         &mut passage.slots,
-        passage.first,
         &mut passage.back,
     );
-    write_ready(
-        out,
-        header,
-        &mut passage.slots,
-        &mut passage.first,
-        &mut passage.counts,
-    )?;
+    passage.slots.write_ready(out, header, &mut passage.counts)?;
     Ok(accepted as u64 + returned as u64)
 }
 

@@ -42,13 +42,14 @@ mod counts;
 mod filling;
 mod flow;
 mod passage;
-mod reading;
 mod slots;
 mod turn;
-mod writing;
+mod window;
 
 pub use counts::Counts;
 pub use flow::{Flow, FlowEnd, transfer};
+pub use slots::Slots;
+pub use window::{Packet, Window};
 
 #[cfg(test)]
 mod tests;

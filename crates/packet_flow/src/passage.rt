@@ -3,26 +3,22 @@ ghost use Rattle.std.specs.Prelude.{◌≡◌, ◌≤◌, IfOk};
 ghost use Rattle.packet_flow.specs.Passage.{IsNew};
 
 use crate::counts::Counts;
-use crate::slots::Slot;
-use capture_io::{Place, ReadStop, Record};
+use crate::slots::Slots;
+use crate::window::Window;
 use crypto_model::OutOfMemory;
 use crypto_op::{Card, OpBurst};
+use mbuf_chain::FreshSegs;
 use std::alloc::Global;
-use std::collections::VecDeque;
 
 /// What stands between the capture that is read and the one that is written.
 #[derive(Drop)]
 pub(crate) struct Passage {
-    /// Where the next record is read.
-    pub(crate) place: Place,
-    /// Why no more records are read.
-    pub(crate) stop: Option<ReadStop>,
-    /// Records that are read and not begun.
-    pub(crate) waiting: VecDeque<Record>,
-    /// Records that are begun and not written.
-    pub(crate) slots: VecDeque<Slot>,
-    /// The number of the first slot's record.
-    pub(crate) first: u32,
+    /// Packets that are read and not begun.
+    pub(crate) window: Window,
+    /// Where their segments come from.
+    pub(crate) store: FreshSegs,
+    /// Packets that are begun and not written.
+    pub(crate) slots: Slots,
     /// How many operations were made.
     pub(crate) made: u64,
     /// What was written.
@@ -40,11 +36,9 @@ impl Passage {
         ensures { IfOk result (IsNew size) }
     {
         Ok(Passage {
-            place: Place { at: 24, records: 0 },
-            stop: None,
-            waiting: VecDeque::new(alloc),
-            slots: VecDeque::new(alloc),
-            first: 0,
+            window: Window::new(alloc),
+            store: FreshSegs::new(alloc),
+            slots: Slots::new(alloc),
             made: 0,
             counts: Counts::new(),
             burst: OpBurst::new(alloc, size)?,

@@ -2,7 +2,6 @@
 ghost use Rattle.std.specs.Prelude.{◌≡◌, ◌+◌, ◌≤◌, ◌<◌, ◌^◌, [], ◌++◌, List, ℕ, length, map, option_map};
 ghost use Rattle.std.specs.List.{All};
 ghost use Rattle.std.specs.List.Sorted.{IsPermutation};
-ghost use Rattle.capture_io.specs.Capture.{Rec};
 ghost use Rattle.crypto_model.specs.Counts.{capped, Rose};
 ghost use Rattle.crypto_op.specs.declared.spec.Card.{Card};
 ghost use Rattle.crypto_op.specs.Op.{Entry, IsFresh, entry_of};
@@ -10,14 +9,14 @@ ghost use Rattle.dev_core.specs.Burst.{front, front_log, log_entry, rest_of};
 ghost use Rattle.dev_core.specs.Calls.{Call, Ran};
 ghost use Rattle.dev_core.specs.Offers.{IsDrained};
 ghost use Rattle.packet_plan.specs.Asked.{sessions_of};
-ghost use Rattle.packet_flow.specs.Slots.{IsBetween};
+ghost use Rattle.packet_flow.specs.Numbered.{Numbered};
+ghost use Rattle.packet_flow.specs.Slots.{StandFor};
 ghost use Rattle.packet_flow.specs.Turns.{NeverIdle, OnlyAsked, with_offer};
 
-use crate::slots::{Slot, settle_all};
+use crate::slots::Slots;
 use crypto_op::{Card, OpBurst};
 use dev_core::Driver;
 use packet_plan::ReadyPlan;
-use std::collections::VecDeque;
 
 // Offers the burst once, unless it is empty, and says how many operations were accepted.
 fn offer<D: Driver<Card>>(dev: &mut D, burst: &mut OpBurst<Card>) -> usize
@@ -46,17 +45,16 @@ fn offer<D: Driver<Card>>(dev: &mut D, burst: &mut OpBurst<Card>) -> usize
 fn drain<D: Driver<Card>>(
     plan: &ReadyPlan,
     dev: &mut D,
-    slots: &mut VecDeque<Slot>,
-    first: u32,
+    slots: &mut Slots,
     back: &mut OpBurst<Card>,
 ) -> usize
     requires empty { back.old.ops ≡ [] }
     requires size { 0 < back.old.cap }
     requires few { length (D.held dev.old) ≤ 2 ^ 32 }
     requires sessions { D.sessions dev.old ≡ sessions_of plan.now }
-    requires between { (used : List Rec) × (rest : List (Entry Card)) × IsBetween plan.now used first slots.old.items (D.held dev.old ++ rest) }
-    ensures between { (used : List Rec) (rest : List (Entry Card)) → IsBetween plan.now used first slots.old.items (D.held dev.old ++ rest)
-        → IsBetween plan.now used first slots.new.items (D.held dev.new ++ rest) }
+    requires stand { (ps : List Numbered) × (rest : List (Entry Card)) × StandFor plan.now ps slots.old (D.held dev.old ++ rest) }
+    ensures stand { (ps : List Numbered) (rest : List (Entry Card)) → StandFor plan.now ps slots.old (D.held dev.old ++ rest)
+        → StandFor plan.now ps slots.new (D.held dev.new ++ rest) }
     ensures count { result + length (D.held dev.new) ≡ length (D.held dev.old) }
     ensures emptied { back.new ≡ back.old }
     ensures cause { result ≡ 0 → 0 < length (D.held dev.old) → Rose (D.stalls dev.old) (D.stalls dev.new) }
@@ -72,7 +70,7 @@ fn drain<D: Driver<Card>>(
     let mut all = 0;
     loop {
         let n = dev.dequeue_burst(back, size);
-        settle_all(plan, slots, first, back);
+        slots.settle_all(plan, back);
         all += n;
         if n < size {
             return all;
@@ -86,8 +84,7 @@ pub(crate) fn turn<D: Driver<Card>>(
     plan: &ReadyPlan,
     dev: &mut D,
     burst: &mut OpBurst<Card>,
-    slots: &mut VecDeque<Slot>,
-    first: u32,
+    slots: &mut Slots,
     back: &mut OpBurst<Card>,
 ) -> (usize, usize)
     requires fresh { All IsFresh burst.old.ops }
@@ -97,9 +94,9 @@ pub(crate) fn turn<D: Driver<Card>>(
     requires counted { (D.stats dev.old).enqueued < 2 ^ 64 }
     requires sessions { D.sessions dev.old ≡ sessions_of plan.now }
     requires works { NeverIdle D.admits D.held dev.old }
-    requires between { (used : List Rec) × IsBetween plan.now used first slots.old.items (D.held dev.old ++ map entry_of burst.old.ops) }
-    ensures between { (used : List Rec) → IsBetween plan.now used first slots.old.items (D.held dev.old ++ map entry_of burst.old.ops)
-        → IsBetween plan.now used first slots.new.items (D.held dev.new ++ map entry_of burst.new.ops) }
+    requires stand { (ps : List Numbered) × StandFor plan.now ps slots.old (D.held dev.old ++ map entry_of burst.old.ops) }
+    ensures stand { (ps : List Numbered) → StandFor plan.now ps slots.old (D.held dev.old ++ map entry_of burst.old.ops)
+        → StandFor plan.now ps slots.new (D.held dev.new ++ map entry_of burst.new.ops) }
     ensures within { result.0 ≤ length burst.old.ops }
     ensures rest { burst.new ≡ rest_of result.0 burst.old }
     ensures count { result.1 + length (D.held dev.new) ≡ length (D.held dev.old) + result.0 }
@@ -114,6 +111,6 @@ pub(crate) fn turn<D: Driver<Card>>(
     ensures follows { D.follows dev.old dev.new }
 {
     let accepted = offer(dev, burst);
-    let returned = drain(plan, dev, slots, first, back);
+    let returned = drain(plan, dev, slots, back);
     (accepted, returned)
 }

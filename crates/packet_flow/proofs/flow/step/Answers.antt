@@ -1,4 +1,4 @@
-use Rattle.std.proofs.Common.{◌≡◌, ◌++◌, length, map, Err, refl, ap, sym, subst, ◌∙◌, arith}
+use Rattle.std.proofs.Common.{◌≡◌, ◌++◌, ℕ, Bool, List, length, map, Err, refl, ap, sym, subst, ◌∙◌, arith}
 use Rattle.std.specs.List.{All}
 use Rattle.std.proofs.lemmas.List.{nil_from_length}
 use Rattle.std.proofs.lemmas.List.Elements.{All-drop}
@@ -7,14 +7,15 @@ use Rattle.crypto_op.specs.declared.op.Op.{Op}
 use Rattle.crypto_op.specs.Burst.{Burst}
 use Rattle.crypto_op.specs.Op.{IsFresh, entry_of}
 use Rattle.dev_core.specs.Burst.{front_log, log_entry}
-use Rattle.capture_io.specs.Capture.{view}
 use Rattle.capture_io.specs.declared.header.ReadStop.{ReadStop}
-use Rattle.packet_plan.specs.Answered.{answered_from}
 use Rattle.packet_flow.specs.Entries.{entries_from}
 use Rattle.packet_flow.specs.declared.flow.FlowEnd.TheVariants as flow_end
 use Rattle.packet_flow.specs.Passage.{outside}
+use Rattle.packet_flow.specs.Writing.{Appends, CutsNext, HasWritten}
+use Rattle.packet_flow.proofs.Answers.{counts_first, counts_now, cut_now, split_now, within, writes_now}
+use Rattle.packet_flow.proofs.Begun.{few_answers, said_by}
 use Rattle.packet_flow.proofs.Ends.{begun_first, ends_cut, ends_whole, flows_behind}
-use Rattle.packet_flow.proofs.Turning.{enqueued_few, few_taken, few_held, queued_on, device_on, few_on, moved_by, some_moves, all_read, no_items, some_items, no_fault, written_by, cut_by, if_err_at, not_err_at, at_rest, offers_on, took_on}
+use Rattle.packet_flow.proofs.Turning.{enqueued_few, few_taken, few_held, queued_on, device_on, few_on, moved_by, some_moves, all_read, no_items, some_items, no_fault, if_err_at, not_err_at, at_rest, offers_on, took_on}
 use Rattle.packet_flow.proofs.flow.step.Goals.{else-len-eq0-via-then-len-eq0+else-is_empty, else-len-eq0-via-else-len-eq0}
 use Rattle.packet_flow.proofs.flow.step.Goals as goal
 
@@ -35,21 +36,21 @@ returns-then-is_empty-clause-ends g c b past first big at ran u0 =
       ran,
       ends_whole c.args.plan.now b g.S.Source.tells g.K.Sink.tells p
           (outside (g.S.Source.left c.fill.new.src) (g.K.Sink.written c.fill.new.out) (g.D.Driver.held c.args.dev.now) (g.D.Driver.stats c.args.dev.now) (g.D.Driver.log c.args.dev.now) past)
-          c.in-Some.stop u c.in-Some.is (all_read (length p.burst.ops) p.waiting.items p.stop c.in_ok-fill.ensures.full none)
-          (nil_from_length p.burst.ops none) (no_items p.slots.len p.slots.items c.is_empty.result p.slots.ok.0 c.is_empty.ensures c.if-is_empty.true),
+          c.in-Some.stop u (sym c.stop.ensures ∙ c.in-Some.is) (all_read (length p.burst.ops) p.window.waiting p.window.stop c.in_ok-fill.ensures.full none)
+          (nil_from_length p.burst.ops none) (no_items (length p.slots) p.slots c.is_empty.result refl c.is_empty.ensures c.if-is_empty.true),
     )
 
 pub returns-then-is_empty-clause-ended : goal.returns-then-is_empty-clause-ended
 returns-then-is_empty-clause-ended g c told is =
     let u = c.in_ok-fill.ensures.underway c.requires.underway.0 _ c.requires.underway.2 refl refl c.requires.underway.4 in
     let same : c.in-Some.stop ≡ ReadStop.End = cc in
-    (u.stopped c.in-Some.stop c.in-Some.is).1 told same
+    (u.stopped c.in-Some.stop (sym c.stop.ensures ∙ c.in-Some.is)).1 told same
 
 pub returns-then-is_empty-clause-read_cause : goal.returns-then-is_empty-clause-read_cause
 returns-then-is_empty-clause-read_cause g c is =
     let u = c.in_ok-fill.ensures.underway c.requires.underway.0 _ c.requires.underway.2 refl refl c.requires.underway.4 in
     let same : c.in-Some.stop ≡ ReadStop.Fault = cc in
-    absurd (no_fault g.S.Source.tells (g.S.Source.left c.fill.new.src) c.in-Some.stop (u.stopped c.in-Some.stop c.in-Some.is) same)
+    absurd (no_fault g.S.Source.tells (g.S.Source.left c.fill.new.src) c.in-Some.stop (u.stopped c.in-Some.stop (sym c.stop.ensures ∙ c.in-Some.is)) same)
 
 pub turn-accepted-requires-clause-fresh : goal.turn-accepted-requires-clause-fresh
 turn-accepted-requires-clause-fresh g c = (c.in_ok-fill.ensures.underway c.requires.underway.0 _ c.requires.underway.2 refl refl c.requires.underway.4).fresh
@@ -70,15 +71,16 @@ turn-accepted-requires-clause-counted g c =
     let u = c.in_ok-fill.ensures.underway c.requires.underway.0 _ c.requires.underway.2 refl refl c.requires.underway.4 in
     omega (arith, enqueued_few c.args.plan.now c.requires.underway.0 g.S.Source.tells g.K.Sink.tells c.fill.new.passage _ u)
 
-pub turn-accepted-requires-clause-between : goal.turn-accepted-requires-clause-between
-turn-accepted-requires-clause-between g c =
+pub turn-accepted-requires-clause-stand : goal.turn-accepted-requires-clause-stand
+turn-accepted-requires-clause-stand g c =
     let u = c.in_ok-fill.ensures.underway c.requires.underway.0 _ c.requires.underway.2 refl refl c.requires.underway.4 in
-    (u.used, u.between)
+    (u.waiting, u.stand)
 
 pub write_ready-requires : goal.write_ready-requires
 write_ready-requires g c =
     let u = c.in_ok-fill.ensures.underway c.requires.underway.0 _ c.requires.underway.2 refl refl c.requires.underway.4 in
-    (c.args.plan.now, u.used, _, c.turn-accepted.ensures.between u.used u.between, omega (arith, u.count, u.range), u.counts)
+    let stand = c.turn-accepted.ensures.stand u.waiting u.stand in
+    record { few = few_answers c.args.plan.now c.requires.underway.0 g.S.Source.tells g.K.Sink.tells c.fill.new.passage _ u c.turn-accepted.new.slots _ stand }
 
 pub returns-in_err-write_ready-clause-ends : goal.returns-in_err-write_ready-clause-ends
 returns-in_err-write_ready-clause-ends g c b past first big at ran u0 =
@@ -86,24 +88,30 @@ returns-in_err-write_ready-clause-ends g c b past first big at ran u0 =
     let n = c.turn-accepted.result.0 in
     let plan = c.args.plan.now in
     let u = c.in_ok-fill.ensures.underway b _ big refl refl u0 in
-    let between = c.turn-accepted.ensures.between u.used u.between in
-    let counts = c.write_ready.ensures.counts plan u.used _ between u.counts in
+    let stand = c.turn-accepted.ensures.stand u.waiting u.stand in
     let now = c.turn-accepted.ensures.calls first past ran in
     let o0 = outside (g.S.Source.left c.fill.new.src) (g.K.Sink.written c.fill.new.out) (g.D.Driver.held c.args.dev.now) (g.D.Driver.stats c.args.dev.now) (g.D.Driver.log c.args.dev.now) past in
+    let es = g.D.Driver.held c.turn-accepted.new.dev ++ map entry_of c.turn-accepted.new.burst.ops in
+    let wrote = g.K.Sink.written c.fill.new.out in
+    let new = g.K.Sink.written c.write_ready.new.out in
+    let Says : Bool → List ℕ → Type 0 = λ x old. HasWritten plan u.waiting es c.write_ready.new.self p.counts c.write_ready.new.counts (CutsNext plan x g.K.Sink.tells old new) in
+    let h = said_by Says b.big c.args.header.now.big wrote wrote big refl (c.in_err-write_ready.ensures.cut plan u.waiting es stand) in
+    let says = CutsNext plan b.big g.K.Sink.tells wrote new in
+    let cut = split_now plan u.used u.done u.waiting u.split es c.write_ready.new.self p.counts c.write_ready.new.counts says h in
     if_err_at c.from_residual-in_err-write_ready.result flow_end.WriteFault _ c.from_residual-in_err-write_ready.ensures.1 (
       now.0,
       now.1,
       ends_cut plan b g.S.Source.tells g.K.Sink.tells
-          (outside (g.S.Source.left c.fill.new.src) (g.K.Sink.written c.write_ready.new.out) (g.D.Driver.held c.turn-accepted.new.dev) (g.D.Driver.stats c.turn-accepted.new.dev) (g.D.Driver.log c.turn-accepted.new.dev) now.0)
-          c.write_ready.new.counts u.used (u.taken ++ front_log n p.burst) (map log_entry c.turn-accepted.new.burst.ops) c.write_ready.new.first
-          (λ told. begun_first b.big b.bytes u.used (map view p.waiting.items) p.place (g.S.Source.left c.fill.new.src) p.stop (u.reads told))
+          (outside (g.S.Source.left c.fill.new.src) new (g.D.Driver.held c.turn-accepted.new.dev) (g.D.Driver.stats c.turn-accepted.new.dev) (g.D.Driver.log c.turn-accepted.new.dev) now.0)
+          c.write_ready.new.counts u.used (u.taken ++ front_log n p.burst) (map log_entry c.turn-accepted.new.burst.ops) (length (u.done ++ h.gone))
+          (λ told. begun_first b.big b.bytes u.used p.window.waiting p.window.place (g.S.Source.left c.fill.new.src) p.window.stop (u.reads told))
           (queued_on u.taken (entries_from plan 0 u.used) n p.burst c.turn-accepted.new.burst c.turn-accepted.ensures.rest u.queued)
           (device_on b u.taken n p.burst _ _ _ _ c.turn-accepted.ensures.within u.device c.turn-accepted.ensures.enqueued c.turn-accepted.ensures.log)
           (took_on plan b g.S.Source.tells g.K.Sink.tells c.args.passage.now p o0 u at c.in_ok-fill.ensures.filled n now.0 c.turn-accepted.ensures.within now.3)
           (flows_behind plan b g.S.Source.tells g.K.Sink.tells p o0 u now.0 (offers_on plan b g.S.Source.tells g.K.Sink.tells c.args.passage.now p o0 u at c.in_ok-fill.ensures.filled n now.0 c.turn-accepted.ensures.within now.3))
-          counts.0 counts.1
-          (λ told. cut_by b.big c.args.header.now.big big (answered_from plan 0 u.used) p.first c.write_ready.new.first b.base (g.K.Sink.written c.fill.new.out) (g.K.Sink.written c.write_ready.new.out)
-          (u.writes told) (c.in_err-write_ready.ensures.fault told plan u.used _ between b.base)),
+          (within plan u.used (u.done ++ h.gone) h.left cut)
+          (counts_first plan u.used (u.done ++ h.gone) h.left cut c.write_ready.new.counts (counts_now plan u.used u.done u.waiting u.split es c.write_ready.new.self p.counts c.write_ready.new.counts says h u.counts))
+          (cut_now plan u.used u.done u.waiting u.split b.big g.K.Sink.tells b.base wrote new h.gone h.left cut u.writes h.says),
     )
 
 pub overflow_add-result : goal.overflow_add-result
@@ -117,8 +125,13 @@ returns-clause-underway g c b past first big at ran u0 =
     let n = c.turn-accepted.result.0 in
     let plan = c.args.plan.now in
     let u = c.in_ok-fill.ensures.underway b _ big refl refl u0 in
-    let between = c.turn-accepted.ensures.between u.used u.between in
-    let counts = c.write_ready.ensures.counts plan u.used _ between u.counts in
+    let stand = c.turn-accepted.ensures.stand u.waiting u.stand in
+    let es = g.D.Driver.held c.turn-accepted.new.dev ++ map entry_of c.turn-accepted.new.burst.ops in
+    let wrote = g.K.Sink.written c.fill.new.out in
+    let new = g.K.Sink.written c.write_ready.new.out in
+    let Says : Bool → List ℕ → Type 0 = λ x old. HasWritten plan u.waiting es c.write_ready.new.self p.counts c.write_ready.new.counts (Appends plan x g.K.Sink.tells old new) in
+    let h = said_by Says b.big c.args.header.now.big wrote wrote big refl (c.in_ok-write_ready.ensures.written plan u.waiting es stand) in
+    let says = Appends plan b.big g.K.Sink.tells wrote new in
     let now = c.turn-accepted.ensures.calls first past ran in
     let o0 = outside (g.S.Source.left c.fill.new.src) (g.K.Sink.written c.fill.new.out) (g.D.Driver.held c.args.dev.now) (g.D.Driver.stats c.args.dev.now) (g.D.Driver.log c.args.dev.now) past in
     let filled = c.in_ok-fill.ensures.filled in (
@@ -127,12 +140,14 @@ returns-clause-underway g c b past first big at ran u0 =
       now.1,
       record {
         used = u.used;
+        done = u.done ++ h.gone;
+        waiting = h.left;
         taken = u.taken ++ front_log n p.burst;
+        split = split_now plan u.used u.done u.waiting u.split es c.write_ready.new.self p.counts c.write_ready.new.counts says h;
         reads = u.reads;
-        writes = λ told. written_by b.big c.args.header.now.big big (answered_from plan 0 u.used) p.first c.write_ready.new.first b.base (g.K.Sink.written c.fill.new.out) (g.K.Sink.written c.write_ready.new.out)
-            (u.writes told) (c.in_ok-write_ready.ensures.written told plan u.used _ between b.base);
-        between = c.in_ok-write_ready.ensures.between plan u.used _ between;
-        counts = counts.1;
+        writes = writes_now plan u.used u.done u.waiting u.split b.big g.K.Sink.tells b.base wrote new h.gone h.left u.writes h.says;
+        stand = h.stand;
+        counts = counts_now plan u.used u.done u.waiting u.split es c.write_ready.new.self p.counts c.write_ready.new.counts says h u.counts;
         made = u.made;
         queued = queued_on u.taken (entries_from plan 0 u.used) n p.burst c.turn-accepted.new.burst c.turn-accepted.ensures.rest u.queued;
         device = device_on b u.taken n p.burst _ _ _ _ c.turn-accepted.ensures.within u.device c.turn-accepted.ensures.enqueued c.turn-accepted.ensures.log;
@@ -140,10 +155,8 @@ returns-clause-underway g c b past first big at ran u0 =
         fresh = subst (λ (x : Burst (Op Card)). All IsFresh x.ops) (sym c.turn-accepted.ensures.rest) (All-drop IsFresh n p.burst.ops u.fresh);
         front = c.in_ok-write_ready.ensures.waits;
         stopped = u.stopped;
-        small = u.small;
-        count = u.count;
+        next = u.next;
         range = u.range;
-        place = u.place;
         back = ap (λ (x : Burst (Op Card)). x.ops) c.turn-accepted.ensures.emptied ∙ u.back;
         sizes = (ap (λ (x : Burst (Op Card)). x.cap) c.turn-accepted.ensures.rest ∙ u.sizes.0, ap (λ (x : Burst (Op Card)). x.cap) c.turn-accepted.ensures.emptied ∙ u.sizes.1, u.sizes.2);
         took = took_on plan b g.S.Source.tells g.K.Sink.tells c.args.passage.now p o0 u at filled n now.0 c.turn-accepted.ensures.within now.3;
@@ -163,7 +176,7 @@ returns-clause-cause g c none =
     let p = c.fill.new.passage in
     let u = c.in_ok-fill.ensures.underway c.requires.underway.0 _ c.requires.underway.2 refl refl c.requires.underway.4 in
     c.turn-accepted.ensures.cause none (elim c.else-len-eq0.branch [
-      | else-len-eq0-via-then-len-eq0+else-is_empty w ↦ some_moves entry_of c.args.plan.now u.used p.first p.slots.items (g.D.Driver.held c.args.dev.now) p.burst.ops u.front
-          (some_items p.slots.len p.slots.items w.is_empty.result p.slots.ok.0 w.is_empty.ensures w.if-is_empty.false) u.between
+      | else-len-eq0-via-then-len-eq0+else-is_empty w ↦ some_moves entry_of c.args.plan.now u.waiting p.slots (g.D.Driver.held c.args.dev.now) p.burst.ops u.front
+          (some_items (length p.slots) p.slots w.is_empty.result refl w.is_empty.ensures w.if-is_empty.false) u.stand
       | else-len-eq0-via-else-len-eq0 w ↦ omega (arith, c.len.ensures, w.if-len-eq0.false)
     ])

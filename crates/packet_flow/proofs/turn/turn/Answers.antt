@@ -4,7 +4,7 @@ use Rattle.crypto_op.specs.declared.spec.Card.{Card}
 use Rattle.crypto_op.specs.declared.op.Op.{Op}
 use Rattle.crypto_op.specs.Burst.{Burst}
 use Rattle.crypto_op.specs.Op.{Entry, entry_of}
-use Rattle.packet_flow.specs.Slots.{IsBetween}
+use Rattle.packet_flow.specs.Slots.{StandFor}
 use Rattle.packet_flow.specs.Turns.{with_offer}
 use Rattle.packet_flow.proofs.Bags.{went_in, more_held, nothing_moved}
 use Rattle.packet_flow.proofs.turn.turn.Goals as goal
@@ -15,21 +15,21 @@ drain-returned-requires-clause-few g c =
     (omega (arith, c.offer-accepted.ensures.within)) in
     omega (arith, more, c.requires.few, c.offer-accepted.ensures.within)
 
-pub drain-returned-requires-clause-between : goal.drain-returned-requires-clause-between
-drain-returned-requires-clause-between g c =
-    let b = c.requires.between in (
+pub drain-returned-requires-clause-stand : goal.drain-returned-requires-clause-stand
+drain-returned-requires-clause-stand g c =
+    let b = c.requires.stand in (
       b.0,
       map entry_of (drop c.offer-accepted.result c.args.burst.now.ops),
-      went_in entry_of c.args.plan.now b.0 c.args.first c.offer-accepted.result c.args.slots.now.items (g.D.Driver.held c.args.dev.now) (g.D.Driver.held c.offer-accepted.new.dev) c.args.burst.now.ops
+      went_in entry_of c.args.plan.now b.0 c.offer-accepted.result c.args.slots.now (g.D.Driver.held c.args.dev.now) (g.D.Driver.held c.offer-accepted.new.dev) c.args.burst.now.ops
           c.offer-accepted.ensures.held b.1,
     )
 
-pub returns-clause-between : goal.returns-clause-between
-returns-clause-between g c used b =
+pub returns-clause-stand : goal.returns-clause-stand
+returns-clause-stand g c ps b =
     let rest = ap (λ (x : Burst (Op Card)). map entry_of x.ops) c.offer-accepted.ensures.rest in
-    subst (λ (l : List (Entry Card)). IsBetween c.args.plan.now used c.args.first c.drain-returned.new.slots.items (g.D.Driver.held c.drain-returned.new.dev ++ l)) (sym rest)
-    (c.drain-returned.ensures.between used (map entry_of (drop c.offer-accepted.result c.args.burst.now.ops))
-    (went_in entry_of c.args.plan.now used c.args.first c.offer-accepted.result c.args.slots.now.items (g.D.Driver.held c.args.dev.now) (g.D.Driver.held c.offer-accepted.new.dev) c.args.burst.now.ops
+    subst (λ (l : List (Entry Card)). StandFor c.args.plan.now ps c.drain-returned.new.slots (g.D.Driver.held c.drain-returned.new.dev ++ l)) (sym rest)
+    (c.drain-returned.ensures.stand ps (map entry_of (drop c.offer-accepted.result c.args.burst.now.ops))
+    (went_in entry_of c.args.plan.now ps c.offer-accepted.result c.args.slots.now (g.D.Driver.held c.args.dev.now) (g.D.Driver.held c.offer-accepted.new.dev) c.args.burst.now.ops
     c.offer-accepted.ensures.held b))
 
 pub returns-clause-count : goal.returns-clause-count

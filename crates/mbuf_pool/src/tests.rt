@@ -22,9 +22,9 @@ fn a_pool_makes_fresh_segments_where_none_is_left(rt: HostRuntime) -> Result<(),
     pool.give(&rt, &mut pass, first);
     let again = pool.take(&rt, alloc, &mut pass)?;
     assert_eq!(rt; pass.fresh(), 1);
-    for seg in [second, third, again] {
-        pool.give(&rt, &mut pass, seg);
-    }
+    pool.give(&rt, &mut pass, second);
+    pool.give(&rt, &mut pass, third);
+    pool.give(&rt, &mut pass, again);
     let _first = pool.take(&rt, alloc, &mut pass)?;
     let _second = pool.take(&rt, alloc, &mut pass)?;
     assert_eq!(rt; pass.fresh(), 1);

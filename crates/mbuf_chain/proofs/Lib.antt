@@ -1,3 +1,5 @@
+pub mod Splits
+pub mod Kept
 pub mod Chains
 pub mod Pieces
 pub mod EndCuts

@@ -1,9 +1,8 @@
 -- A piece is a part of the packet, and what is laid over it is laid over the packet.
-use Rattle.std.proofs.Common.{◌≡◌, ℕ, ◌+◌, ◌-◌, ◌<◌, ◌≤◌, List, [], ◌∷◌, ◌++◌, length, take, drop, min, slice_set, slice_index_or, refl, sym, ap, ◌∙◌, suc, zero, arith, length-append, length-drop}
+use Rattle.std.proofs.Common.{◌≡◌, ℕ, ◌+◌, ◌-◌, ◌<◌, ◌≤◌, List, [], ◌∷◌, ◌++◌, length, take, drop, min, slice_set, refl, sym, ap, ◌∙◌, suc, zero, arith, length-append, length-drop}
 use Rattle.std.proofs.Common.{inl, inr}
 use Rattle.std.proofs.lemmas.Bool.{lt-ltb, le-ltb, cases_lt}
-use Rattle.std.proofs.lemmas.List.{drop-append-le, take_more, length-take-le, take-append-le}
-use Rattle.std.proofs.lemmas.Grind.{flat_map-append}
+use Rattle.std.proofs.lemmas.List.{drop-append-le, length-take-le, take-append-le}
 use Rattle.std.proofs.Math.Seq.{drop-append-add}
 use Rattle.seg_list.specs.Buffer.{Buffer, relaid_at, with_data}
 use Rattle.crypto_model.specs.Chain.{laid_at}
@@ -92,12 +91,6 @@ piece_laid-packet (x ∷ xs) off w inside fits =
           ∙ ap (λ ys. with_data x ys ∷ with_packet xs new) (sym (take-front x.body new)) ∙ ap (λ ys. with_data x (take (length x.body) (x.body ++ new)) ∷ with_packet xs ys) (sym (drop-front x.body new))
           ∙ ap (λ ys. with_packet (x ∷ xs) ys) (sym (laid_at-behind j w x.body (packet_of xs) (omega (arith, e, t.0))) ∙ ap (λ i. laid_at i w (x.body ++ packet_of xs)) is))
     ]
-
--- one segment more
-pub length-packet-next : (c : List Buffer) (i : ℕ) (b : Buffer) → i < length c → slice_index_or c i b ≡ b → length (packet_of (take (i + 1) c)) ≡ length (packet_of (take i c)) + length b.body
-length-packet-next c i b within is =
-    rw (take_more c i b within, is, flat_map-append (λ (x : Buffer). x.body) (take i c) (b ∷ []))
-    (length-append (packet_of (take i c)) (packet_of (b ∷ [])) ∙ ap (λ n. length (packet_of (take i c)) + n) (length-append b.body [] ∙ omega arith))
 
 -- what is lent is the piece
 pub piece_lent : (c : List Buffer) (off n i at : ℕ) (b : Buffer) (r : List ℕ) → LiesAt c off i at b → 0 < n → r ≡ take (min n (length b.body - at)) (drop at b.body)

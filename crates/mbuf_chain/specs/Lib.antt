@@ -4,3 +4,4 @@ pub mod Lending
 pub mod Ends
 pub mod Refusals
 pub mod Emptied
+pub mod Kept

@@ -2,14 +2,16 @@
 use Rattle.std.proofs.Common.{◌≡◌, ℕ, zero, suc, ◌+◌, ◌-◌, ◌*◌, ◌<◌, ◌≤◌, List, [], ◌∷◌, ◌++◌, length, take, drop, slice_set, slice_index_or, refl, sym, ap, ◌∙◌, arith, length-append, length-drop}
 use Rattle.std.specs.List.{All}
 use Rattle.std.proofs.lemmas.List.{length-take}
-use Rattle.std.proofs.lemmas.List.Elements.{All-head, All-tail, All-set, All-get_or, All-append, All-push, All-take}
+use Rattle.std.proofs.lemmas.List.Elements.{All-head, All-tail, All-set, All-get_or, All-append, All-push, All-take, All-cons}
 use Rattle.std.proofs.lemmas.Grind.{flat_map-append}
 use mathlib.Core.List.{append-nil}
-use Rattle.seg_list.specs.Buffer.{Buffer, IsWhole, bytes_of, cut_at, relaid_at}
+use Rattle.seg_list.specs.Buffer.{Buffer, IsWhole, with_data, bytes_of, cut_at, relaid_at}
 use Rattle.crypto_model.specs.Chain.{laid_at}
 use Rattle.crypto_model.proofs.Laid.{length-laid_at}
-use Rattle.mbuf_chain.specs.Chain.{packet_of}
+use Rattle.mbuf_chain.specs.Chain.{packet_of, with_packet}
+use Rattle.mbuf_chain.proofs.Chains.{packet_of-with_packet}
 use Rattle.mbuf_chain.specs.Kept.{IsKept}
+use Rattle.mbuf_chain.proofs.Pieces.{length-bytes_of, body_laid}
 use Rattle.mbuf_chain.specs.Piece.{LiesAt}
 
 -- however the bytes of a buffer are cut, they are as many
@@ -17,20 +19,12 @@ pub whole_cut : (k j : ℕ) (xs : List ℕ) → length xs ≡ 2048 → IsWhole (
 whole_cut k j xs e =
     omega (arith, e, length-take k xs, length-drop k xs, length-take j (drop k xs), length-drop j (drop k xs))
 
-length-bytes_of : (b : Buffer) → length (bytes_of b) ≡ length b.before + length b.body + length b.after
-length-bytes_of b = omega (arith, length-append (b.before ++ b.body) b.after, length-append b.before b.body)
-
 pub whole_set : (k j : ℕ) (b : Buffer) → IsWhole b → IsWhole (cut_at k j (bytes_of b))
 whole_set k j b whole = whole_cut k j (bytes_of b) (length-bytes_of b ∙ whole)
 
 pub whole_laid : (at : ℕ) (b : Buffer) (w : List ℕ) → IsWhole b → IsWhole (relaid_at at b w)
 whole_laid at b w whole =
     whole_cut (length b.before) (length b.body) (laid_at (length b.before + at) w (bytes_of b)) (length-laid_at (length b.before + at) w (bytes_of b) ∙ length-bytes_of b ∙ whole)
-
-pub body_laid : (at : ℕ) (b : Buffer) (w : List ℕ) → length (relaid_at at b w).body ≡ length b.body
-body_laid at b w =
-    let ys = laid_at (length b.before + at) w (bytes_of b) in
-    omega (arith, length-take (length b.body) (drop (length b.before) ys), length-drop (length b.before) ys, length-laid_at (length b.before + at) w (bytes_of b), length-bytes_of b)
 
 pub most_bytes : (c : List Buffer) → All IsWhole c → length (packet_of c) ≤ 2048 * length c
 most_bytes [] h = omega arith
@@ -108,3 +102,22 @@ kept_first c d len all i k j b x h first some is cut size =
     let same = length-set d (length d - 1) x in
     kept (slice_set d (length d - 1) x) len (omega (arith, same, some)) (omega (arith, same, ap length first, length-take (i + 1) c, h.most))
     (All-set IsWhole d (length d - 1) x (rw cut (whole_set k j b last)) whole) size
+
+length-with_packet : (c : List Buffer) (p : List ℕ) → length (with_packet c p) ≡ length c
+length-with_packet [] p = refl
+length-with_packet (b ∷ bs) p = ap suc (length-with_packet bs (drop (length b.body) p))
+
+whole_with : (c : List Buffer) (p : List ℕ) → length p ≡ length (packet_of c) → All IsWhole c → All IsWhole (with_packet c p)
+whole_with [] p e h = h
+whole_with (b ∷ bs) p e h =
+    let k = length-append b.body (packet_of bs) in
+    let w : length b.before + length b.body + length b.after ≡ 2048 = All-head IsWhole b bs h in
+    let same = length-take (length b.body) p in
+    All-cons IsWhole (with_data b (take (length b.body) p)) (with_packet bs (drop (length b.body) p)) (omega (arith, w, same, e, k))
+    (whole_with bs (drop (length b.body) p) (omega (arith, e, k, length-drop (length b.body) p)) (All-tail IsWhole b bs h))
+
+-- another packet of this length in the same segments
+pub kept_written : (c : List Buffer) (len : ℕ) (p : List ℕ) → IsKept c len → length p ≡ length (packet_of c) → IsKept (with_packet c p) len
+kept_written c len p h e =
+    let n = length-with_packet c p in
+    kept (with_packet c p) len (omega (arith, n, h.some)) (omega (arith, n, h.most)) (whole_with c p e h.whole) (h.is ∙ sym e ∙ ap length (sym (packet_of-with_packet c p e)))

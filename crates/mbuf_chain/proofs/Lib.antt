@@ -1,3 +1,6 @@
+pub mod Units
+pub mod Spots
+pub mod Ranges
 pub mod Splits
 pub mod Kept
 pub mod Chains

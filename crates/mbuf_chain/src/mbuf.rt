@@ -1,17 +1,22 @@
 //! One packet, in segments.
-ghost use Rattle.std.specs.Prelude.{◌≡◌, ◌==◌, ◌↔◌, ◌+◌, ◌-◌, ◌<◌, ◌≤◌, [], ◌∷◌, ◌++◌, length, take, drop, replicate, slice_index_or, IfOk, IfErr, IsErr, OnOk, OnErr};
+ghost use Rattle.std.specs.Prelude.{◌≡◌, ℕ, List, ◌==◌, ◌↔◌, ◌+◌, ◌-◌, ◌%◌, ◌<◌, ◌≤◌, [], ◌∷◌, ◌++◌, length, take, drop, replicate, slice_index_or, IfOk, IfErr, IsErr, OnOk, OnErr};
 ghost use Rattle.std.specs.Borrow.{sem};
 ghost use Rattle.std.specs.Result.{IsErrOf};
 ghost use Rattle.crypto_model.specs.Chain.{laid_at};
 ghost use Rattle.std.specs.List.{All};
 ghost use Rattle.seg_list.specs.Buffer.{Buffer, IsWhole};
 ghost use Rattle.mbuf_chain.specs.Chain.{packet_of, with_packet};
+ghost use Rattle.std.specs.Map.Iter.{ShowsInOrder, deref};
 ghost use Rattle.mbuf_chain.specs.Kept.{EndsIn};
+ghost use Rattle.mbuf_chain.specs.Pieces.{joined, pieces_of};
 ghost use Rattle.mbuf_chain.specs.Piece.{LiesAt, piece_len};
 ghost use Rattle.mbuf_chain.specs.Lending.{LendsPiece};
 ghost use Rattle.mbuf_chain.specs.Ends.{cut_back, cut_front, cut_to, first_of, last_of, on_first, on_last, zeros_before, zeros_behind};
 ghost use Rattle.mbuf_chain.specs.Refusals.{seg_of};
 
+use crate::cursor::Cursor;
+use crate::piece_iter::{PieceIter, copy_out};
+use crate::work::{Work, take_in};
 use crate::{AddRefused, NoHeadroom, NoTailroom, TooManySegs, TooShort};
 use seg_list::{Seg, SegList};
 use std::alloc::Global;
@@ -234,15 +239,17 @@ impl Mbuf {
         requires { off + length out.old ≤ length (packet_of self.now) }
         ensures { out.new ≡ take (length out.old) (drop off (packet_of self.now)) }
     {
-        let _all = self.len();
-        let mut done = 0;
-        while done < out.len() {
-            let (i, at) = find(&self.segs, off + done);
-            let data = self.segs.get(i).data();
-            let n = (data.len() - at).min(out.len() - done);
-            out[done..done + n].copy_from_slice(&data[at..at + n]);
-            done += n;
-        }
+        copy_out(self.pieces(off, out.len()), out);
+    }
+
+    /// The pieces of a range in order, each within one segment and of at least one byte.
+    pub fn pieces(&self, off: usize, len: usize) -> PieceIter<'_>
+        requires { off + len ≤ length (packet_of self.now) }
+        ensures all { joined result ≡ take len (drop off (packet_of self.now)) }
+        ensures each { result ≡ pieces_of off len self.now }
+        ensures runs { ShowsInOrder (deref {X = List ℕ}) }
+    {
+        PieceIter::of(self.segs.iter(), off, len)
     }
 
     /// Copies all of `bytes` into the packet from `off` on.
@@ -250,14 +257,25 @@ impl Mbuf {
         requires { off + length bytes.now ≤ length (packet_of self.old) }
         ensures { self.new ≡ with_packet self.old (laid_at off bytes.now (packet_of self.old)) }
     {
-        let _all = self.len();
+        let mut cursor = Cursor::new(&mut self.segs, off);
+        cursor.write(bytes);
+        self.segs = cursor.into_segs();
+    }
+
+    /// Works on a range in place, and goes from one segment to the next. A unit that lies in several is gathered.
+    pub fn work_on<W: Work>(&mut self, off: usize, len: usize, work: &mut W)
+        requires within { off + len ≤ length (packet_of self.old) }
+        requires whole { len % W.unit ≡ 0 }
+        ensures { (begun : W.Begun) → W.holds begun work.old []
+            → W.holds begun work.new (take len (drop off (packet_of self.old)))
+            × (self.new ≡ with_packet self.old (laid_at off (W.made begun (take len (drop off (packet_of self.old)))) (packet_of self.old))) }
+    {
+        let mut cursor = Cursor::new(&mut self.segs, off);
         let mut done = 0;
-        while done < bytes.len() {
-            let piece = self.piece_mut(off + done, bytes.len() - done);
-            let n = piece.len();
-            piece.copy_from_slice(&bytes[done..done + n]);
-            done += n;
+        while done < len {
+            done += take_in(work, &mut cursor, len - done);
         }
+        self.segs = cursor.into_segs();
     }
 
     /// Lends the longest front of the range that lies in one segment.

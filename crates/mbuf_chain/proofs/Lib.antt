@@ -1,3 +1,8 @@
+pub mod Units
+pub mod Spots
+pub mod Ranges
+pub mod Splits
+pub mod Kept
 pub mod Chains
 pub mod Pieces
 pub mod EndCuts

@@ -1,11 +1,10 @@
 -- A piece is a part of the packet, and what is laid over it is laid over the packet.
-use Rattle.std.proofs.Common.{◌≡◌, ℕ, ◌+◌, ◌-◌, ◌<◌, ◌≤◌, List, [], ◌∷◌, ◌++◌, length, take, drop, min, slice_set, slice_index_or, refl, sym, ap, ◌∙◌, suc, zero, arith, length-append, length-drop}
+use Rattle.std.proofs.Common.{◌≡◌, ℕ, ◌+◌, ◌-◌, ◌<◌, ◌≤◌, List, [], ◌∷◌, ◌++◌, length, take, drop, min, slice_set, refl, sym, ap, ◌∙◌, suc, zero, arith, length-append, length-drop}
 use Rattle.std.proofs.Common.{inl, inr}
 use Rattle.std.proofs.lemmas.Bool.{lt-ltb, le-ltb, cases_lt}
-use Rattle.std.proofs.lemmas.List.{drop-append-le, take_more, length-take-le, take-append-le}
-use Rattle.std.proofs.lemmas.Grind.{flat_map-append}
+use Rattle.std.proofs.lemmas.List.{drop-append-le, length-take, length-take-le, take-append-le}
 use Rattle.std.proofs.Math.Seq.{drop-append-add}
-use Rattle.seg_list.specs.Buffer.{Buffer, relaid_at, with_data}
+use Rattle.seg_list.specs.Buffer.{Buffer, bytes_of, relaid_at, with_data}
 use Rattle.crypto_model.specs.Chain.{laid_at}
 use Rattle.seg_list.proofs.Cuts.{take-front, drop-front}
 use Rattle.seg_list.proofs.Laid.{relaid_at-within, laid_at-front, laid_at-behind}
@@ -13,6 +12,15 @@ use Rattle.crypto_model.proofs.Laid.{length-laid_at}
 use Rattle.mbuf_chain.specs.Chain.{packet_of, with_packet}
 use Rattle.mbuf_chain.proofs.Chains.{with_packet-own}
 use Rattle.mbuf_chain.specs.Piece.{LiesAt, piece_len, piece_laid}
+
+pub length-bytes_of : (b : Buffer) → length (bytes_of b) ≡ length b.before + length b.body + length b.after
+length-bytes_of b = omega (arith, length-append (b.before ++ b.body) b.after, length-append b.before b.body)
+
+-- whatever is written to a buffer's data, they are as many
+pub body_laid : (at : ℕ) (b : Buffer) (w : List ℕ) → length (relaid_at at b w).body ≡ length b.body
+body_laid at b w =
+    let ys = laid_at (length b.before + at) w (bytes_of b) in
+    omega (arith, length-take (length b.body) (drop (length b.before) ys), length-drop (length b.before) ys, length-laid_at (length b.before + at) w (bytes_of b), length-bytes_of b)
 
 LiesAt-tail : (x : Buffer) (xs : List Buffer) (off i at : ℕ) (b : Buffer) → LiesAt (x ∷ xs) off (suc i) at b → (length x.body ≤ off) × LiesAt xs (off - length x.body) i at b
 LiesAt-tail x xs off i at b h =
@@ -93,12 +101,6 @@ piece_laid-packet (x ∷ xs) off w inside fits =
           ∙ ap (λ ys. with_packet (x ∷ xs) ys) (sym (laid_at-behind j w x.body (packet_of xs) (omega (arith, e, t.0))) ∙ ap (λ i. laid_at i w (x.body ++ packet_of xs)) is))
     ]
 
--- one segment more
-pub length-packet-next : (c : List Buffer) (i : ℕ) (b : Buffer) → i < length c → slice_index_or c i b ≡ b → length (packet_of (take (i + 1) c)) ≡ length (packet_of (take i c)) + length b.body
-length-packet-next c i b within is =
-    rw (take_more c i b within, is, flat_map-append (λ (x : Buffer). x.body) (take i c) (b ∷ []))
-    (length-append (packet_of (take i c)) (packet_of (b ∷ [])) ∙ ap (λ n. length (packet_of (take i c)) + n) (length-append b.body [] ∙ omega arith))
-
 -- what is lent is the piece
 pub piece_lent : (c : List Buffer) (off n i at : ℕ) (b : Buffer) (r : List ℕ) → LiesAt c off i at b → 0 < n → r ≡ take (min n (length b.body - at)) (drop at b.body)
     → (r ≡ take (piece_len off n c) (drop off (packet_of c))) × (length r ≡ piece_len off n c) × (0 < length r) × (length r ≤ n)
@@ -127,4 +129,26 @@ piece_len-less (x ∷ xs) off n k h =
     elim (cases_lt off (length x.body)) [
       | inl here ↦ let f = piece_len-first x xs off n here in piece_len-first x xs off k here ∙ omega (arith, h, f)
       | inr behind ↦ let l = piece_len-later x xs off n behind in piece_len-later x xs off k behind ∙ piece_len-less xs (off - length x.body) n k (omega (arith, h, l))
+    ]
+
+-- what is written to a piece leaves the segments' lengths
+pub piece_len-laid : (c : List Buffer) (off at n : ℕ) (w : List ℕ) → piece_len at n (piece_laid off c w) ≡ piece_len at n c
+piece_len-laid [] off at n w = refl
+piece_len-laid (x ∷ xs) off at n w =
+    elim (cases_lt off (length x.body)) [
+      | inl here ↦
+          let e = body_laid off x w in
+          rw (lt-ltb off (length x.body) here, e) refl
+      | inr behind ↦
+          rw (le-ltb off (length x.body) behind, piece_len-laid xs (off - length x.body) (at - length x.body) n w) refl
+    ]
+
+pub length-piece_laid : (c : List Buffer) (off : ℕ) (w : List ℕ) → length (packet_of (piece_laid off c w)) ≡ length (packet_of c)
+length-piece_laid [] off w = refl
+length-piece_laid (x ∷ xs) off w =
+    elim (cases_lt off (length x.body)) [
+      | inl here ↦ let e = lt-ltb off (length x.body) here in rw e (omega (arith, body_laid off x w, length-append x.body (packet_of xs), length-append (relaid_at off x w).body (packet_of xs)))
+      | inr behind ↦
+          let e = le-ltb off (length x.body) behind in
+          rw e (omega (arith, length-piece_laid xs (off - length x.body) w, length-append x.body (packet_of xs), length-append x.body (packet_of (piece_laid (off - length x.body) xs w))))
     ]

@@ -1,6 +1,10 @@
 pub mod Chain
+pub mod Cursors
 pub mod Piece
 pub mod Lending
 pub mod Ends
 pub mod Refusals
 pub mod Emptied
+pub mod Kept
+pub mod TakingIn
+pub mod Pieces

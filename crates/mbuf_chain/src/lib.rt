@@ -17,13 +17,18 @@
 //! A [`SegStore`] gives segments and takes them back.
 #![tactic(auto)]
 
+mod cursor;
 mod mbuf;
+mod piece_iter;
 mod refusal;
 mod store;
+mod work;
 
 pub use mbuf::Mbuf;
+pub use piece_iter::PieceIter;
 pub use refusal::{AddRefused, NoHeadroom, NoTailroom, TooManySegs, TooShort};
 pub use store::{FreshSegs, NoSeg, SegStore};
+pub use work::Work;
 
 #[cfg(test)]
 mod tests;

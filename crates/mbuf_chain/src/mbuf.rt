@@ -1,15 +1,22 @@
 //! One packet, in segments.
-ghost use Rattle.std.specs.Prelude.{◌≡◌, ◌==◌, ◌↔◌, ◌+◌, ◌-◌, ◌<◌, ◌≤◌, [], ◌∷◌, ◌++◌, length, take, drop, replicate, slice_index_or, IfOk, IfErr, IsErr, OnOk, OnErr};
+ghost use Rattle.std.specs.Prelude.{◌≡◌, ℕ, List, ◌==◌, ◌↔◌, ◌+◌, ◌-◌, ◌%◌, ◌<◌, ◌≤◌, [], ◌∷◌, ◌++◌, length, take, drop, replicate, slice_index_or, IfOk, IfErr, IsErr, OnOk, OnErr};
 ghost use Rattle.std.specs.Borrow.{sem};
 ghost use Rattle.std.specs.Result.{IsErrOf};
 ghost use Rattle.crypto_model.specs.Chain.{laid_at};
-ghost use Rattle.seg_list.specs.Buffer.{Buffer};
+ghost use Rattle.std.specs.List.{All};
+ghost use Rattle.seg_list.specs.Buffer.{Buffer, IsWhole};
 ghost use Rattle.mbuf_chain.specs.Chain.{packet_of, with_packet};
+ghost use Rattle.std.specs.Map.Iter.{ShowsInOrder, deref};
+ghost use Rattle.mbuf_chain.specs.Kept.{EndsIn};
+ghost use Rattle.mbuf_chain.specs.Pieces.{joined, pieces_of};
 ghost use Rattle.mbuf_chain.specs.Piece.{LiesAt, piece_len};
 ghost use Rattle.mbuf_chain.specs.Lending.{LendsPiece};
 ghost use Rattle.mbuf_chain.specs.Ends.{cut_back, cut_front, cut_to, first_of, last_of, on_first, on_last, zeros_before, zeros_behind};
 ghost use Rattle.mbuf_chain.specs.Refusals.{seg_of};
 
+use crate::cursor::Cursor;
+use crate::piece_iter::{PieceIter, copy_out};
+use crate::work::{Work, take_in};
 use crate::{AddRefused, NoHeadroom, NoTailroom, TooManySegs, TooShort};
 use seg_list::{Seg, SegList};
 use std::alloc::Global;
@@ -24,17 +31,19 @@ const SEG_SIZE: usize = 2048;
 #[derive(Drop)]
 pub struct Mbuf {
     segs: SegList,
+    len: usize,
 }
 
 impl Model for Mbuf {
-    ghost use Rattle.std.specs.Prelude.{◌<◌, List, length};
+    ghost use Rattle.std.specs.Prelude.{List};
     ghost use Rattle.seg_list.specs.Buffer.{Buffer};
+    ghost use Rattle.mbuf_chain.specs.Kept.{IsKept};
 
     ghost Value = { List Buffer };
 
     ghost view = { λ m. m.segs };
 
-    ghost invariant = { λ m. 0 < length m.segs };
+    ghost invariant = { λ m. IsKept m.segs m.len };
 }
 
 impl Mbuf {
@@ -43,11 +52,12 @@ impl Mbuf {
         ensures made { IfOk result (λ m. m ≡ seg ∷ []) }
         ensures refused { IfErr result (λ s. s ≡ seg) }
     {
+        let len = seg.len();
         let Ok(mut segs) = SegList::new(alloc) else {
             return Err(seg);
         };
         match segs.push_back(seg) {
-            Ok(()) => Ok(Mbuf { segs }),
+            Ok(()) => Ok(Mbuf { segs, len }),
             Err(seg) => Err(seg),
         }
     }
@@ -57,14 +67,15 @@ impl Mbuf {
         requires { 0 < length segs }
         ensures { result ≡ segs }
     {
-        Mbuf { segs }
+        let len = bytes_in(&segs);
+        Mbuf { segs, len }
     }
 
     /// The segments in order.
     pub fn into_segs(self) -> SegList
         ensures { result ≡ self }
     {
-        let Mbuf { segs } = self;
+        let Mbuf { segs, len: _ } = self;
         segs
     }
 
@@ -88,18 +99,14 @@ impl Mbuf {
         ensures value { result ≡ length (packet_of self.now) }
         ensures most { result ≤ 524288 }
     {
-        let mut all = 0usize;
-        for i in 0..self.segs.len() {
-            all += self.segs.get(i).len();
-        }
-        all
+        self.len
     }
 
     /// Whether the packet has no bytes.
     pub fn is_empty(&self) -> bool
         ensures { result ≡ (length (packet_of self.now) == 0) }
     {
-        self.len() == 0
+        self.len == 0
     }
 
     /// Puts `n` zero bytes behind the last segment's data.
@@ -109,8 +116,7 @@ impl Mbuf {
         ensures packet { OnOk result (packet_of self.new ≡ packet_of self.old ++ replicate n 0) }
         ensures refused { OnErr result (self.new ≡ self.old) }
     {
-        let last = self.segs.len() - 1;
-        let seg = self.segs.get_mut(last);
+        let seg = self.segs.last_mut();
         let off = seg.off();
         let len = seg.len();
         if SEG_SIZE - off - len < n {
@@ -118,6 +124,7 @@ impl Mbuf {
         }
         seg.set(off, len + n);
         zero(seg.part_mut(len, n));
+        self.len += n;
         Ok(())
     }
 
@@ -128,7 +135,7 @@ impl Mbuf {
         ensures packet { OnOk result (packet_of self.new ≡ replicate n 0 ++ packet_of self.old) }
         ensures refused { OnErr result (self.new ≡ self.old) }
     {
-        let seg = self.segs.get_mut(0);
+        let seg = self.segs.first_mut();
         let off = seg.off();
         let len = seg.len();
         if off < n {
@@ -136,6 +143,7 @@ impl Mbuf {
         }
         seg.set(off - n, len + n);
         zero(seg.part_mut(0, n));
+        self.len += n;
         Ok(())
     }
 
@@ -146,13 +154,14 @@ impl Mbuf {
         ensures packet { OnOk result (packet_of self.new ≡ drop n (packet_of self.old)) }
         ensures refused { OnErr result (self.new ≡ self.old) }
     {
-        let seg = self.segs.get_mut(0);
+        let seg = self.segs.first_mut();
         let len = seg.len();
         if len < n {
             return Err(TooShort);
         }
         let off = seg.off();
         seg.set(off + n, len - n);
+        self.len -= n;
         Ok(())
     }
 
@@ -163,14 +172,14 @@ impl Mbuf {
         ensures packet { OnOk result (packet_of self.new ≡ take (length (packet_of self.old) - n) (packet_of self.old)) }
         ensures refused { OnErr result (self.new ≡ self.old) }
     {
-        let last = self.segs.len() - 1;
-        let seg = self.segs.get_mut(last);
+        let seg = self.segs.last_mut();
         let len = seg.len();
         if len < n {
             return Err(TooShort);
         }
         let off = seg.off();
         seg.set(off, len - n);
+        self.len -= n;
         Ok(())
     }
 
@@ -181,18 +190,12 @@ impl Mbuf {
         ensures cut { self.new ≡ cut_to len self.old }
         ensures packet { packet_of self.new ≡ take len (packet_of self.old) }
     {
-        let mut surplus = self.len() - len;
-        let mut count = self.segs.len();
-        let mut last = self.segs.get(count - 1).len();
-        while 1 < count && last <= surplus {
-            let _dropped = self.segs.pop_back();
-            surplus -= last;
-            count -= 1;
-            last = self.segs.get(count - 1).len();
-        }
-        let seg = self.segs.get_mut(count - 1);
+        let (before, last) = end_of(&self.segs, len);
+        self.segs.truncate(before + 1);
+        let seg = self.segs.last_mut();
         let off = seg.off();
-        seg.set(off, last - surplus);
+        seg.set(off, last);
+        self.len = len;
     }
 
     /// Links the segments of `other` behind these. Takes no memory.
@@ -205,8 +208,9 @@ impl Mbuf {
         if MOST_SEGS < self.segs.len() + other.segs.len() {
             return Err(TooManySegs(other));
         }
-        let Mbuf { segs } = other;
+        let Mbuf { segs, len } = other;
         self.segs.append(segs);
+        self.len += len;
         Ok(())
     }
 
@@ -220,7 +224,14 @@ impl Mbuf {
         if self.segs.len() == MOST_SEGS {
             return Err(AddRefused::TooManySegs(seg));
         }
-        self.segs.push_back(seg).map_err(AddRefused::OutOfMemory)
+        let len = seg.len();
+        match self.segs.push_back(seg) {
+            Ok(()) => {
+                self.len += len;
+                Ok(())
+            }
+            Err(seg) => Err(AddRefused::OutOfMemory(seg)),
+        }
     }
 
     /// Copies the packet's bytes from `off` on into all of `out`.
@@ -228,15 +239,17 @@ impl Mbuf {
         requires { off + length out.old ≤ length (packet_of self.now) }
         ensures { out.new ≡ take (length out.old) (drop off (packet_of self.now)) }
     {
-        let _all = self.len();
-        let mut done = 0;
-        while done < out.len() {
-            let (i, at) = find(&self.segs, off + done);
-            let data = self.segs.get(i).data();
-            let n = (data.len() - at).min(out.len() - done);
-            out[done..done + n].copy_from_slice(&data[at..at + n]);
-            done += n;
-        }
+        copy_out(self.pieces(off, out.len()), out);
+    }
+
+    /// The pieces of a range in order, each within one segment and of at least one byte.
+    pub fn pieces(&self, off: usize, len: usize) -> PieceIter<'_>
+        requires { off + len ≤ length (packet_of self.now) }
+        ensures all { joined result ≡ take len (drop off (packet_of self.now)) }
+        ensures each { result ≡ pieces_of off len self.now }
+        ensures runs { ShowsInOrder (deref {X = List ℕ}) }
+    {
+        PieceIter::of(self.segs.iter(), off, len)
     }
 
     /// Copies all of `bytes` into the packet from `off` on.
@@ -244,14 +257,25 @@ impl Mbuf {
         requires { off + length bytes.now ≤ length (packet_of self.old) }
         ensures { self.new ≡ with_packet self.old (laid_at off bytes.now (packet_of self.old)) }
     {
-        let _all = self.len();
+        let mut cursor = Cursor::new(&mut self.segs, off);
+        cursor.write(bytes);
+        self.segs = cursor.into_segs();
+    }
+
+    /// Works on a range in place, and goes from one segment to the next. A unit that lies in several is gathered.
+    pub fn work_on<W: Work>(&mut self, off: usize, len: usize, work: &mut W)
+        requires within { off + len ≤ length (packet_of self.old) }
+        requires whole { len % W.unit ≡ 0 }
+        ensures { (begun : W.Begun) → W.holds begun work.old []
+            → W.holds begun work.new (take len (drop off (packet_of self.old)))
+            × (self.new ≡ with_packet self.old (laid_at off (W.made begun (take len (drop off (packet_of self.old)))) (packet_of self.old))) }
+    {
+        let mut cursor = Cursor::new(&mut self.segs, off);
         let mut done = 0;
-        while done < bytes.len() {
-            let piece = self.piece_mut(off + done, bytes.len() - done);
-            let n = piece.len();
-            piece.copy_from_slice(&bytes[done..done + n]);
-            done += n;
+        while done < len {
+            done += take_in(work, &mut cursor, len - done);
         }
+        self.segs = cursor.into_segs();
     }
 
     /// Lends the longest front of the range that lies in one segment.
@@ -292,6 +316,20 @@ fn zero(piece: &mut [u8])
     }
 }
 
+// How many bytes the segments have.
+fn bytes_in(segs: &SegList) -> usize
+    ensures bytes { result ≡ length (packet_of segs.now) }
+    ensures whole { All IsWhole segs.now }
+    ensures most { length segs.now ≤ 256 }
+{
+    let mut all = 0usize;
+    let _most = segs.len();
+    for seg in segs.iter() {
+        all += seg.len();
+    }
+    all
+}
+
 // The segment that holds the byte at `off`, and the byte's place in its data.
 fn find(segs: &SegList, off: usize) -> (usize, usize)
     requires { off < length (packet_of segs.now) }
@@ -299,12 +337,35 @@ fn find(segs: &SegList, off: usize) -> (usize, usize)
     ensures lies { (b : Buffer) → slice_index_or segs.now result.0 b ≡ b → LiesAt segs.now off result.0 result.1 b }
 {
     let mut at = off;
-    for i in 0..segs.len() {
-        let n = segs.get(i).len();
+    let mut i = 0;
+    let _most = segs.len();
+    for seg in segs.iter() {
+        let n = seg.len();
         if at < n {
             return (i, at);
         }
         at -= n;
+        i += 1;
+    }
+    unreachable!()
+}
+
+// The segment in which the first `len` bytes end, and how many of them lie in it.
+fn end_of(segs: &SegList, len: usize) -> (usize, usize)
+    requires some { 0 < length segs.now }
+    requires within { len ≤ length (packet_of segs.now) }
+    ensures { EndsIn segs.now len result.0 result.1 }
+{
+    let mut left = len;
+    let mut before = 0;
+    let _most = segs.len();
+    for seg in segs.iter() {
+        let n = seg.len();
+        if left <= n {
+            return (before, left);
+        }
+        left -= n;
+        before += 1;
     }
     unreachable!()
 }

@@ -25,3 +25,8 @@ IsWhole b = length b.before + length b.body + length b.after ≡ 2048
 -- the same buffer with bytes laid over it from byte at of the data on
 abbrev pub relaid_at : ℕ → Buffer → List ℕ → Buffer
 relaid_at at b bytes = cut_at (length b.before) (length b.body) (laid_at (length b.before + at) bytes (bytes_of b))
+
+-- a list that is walked: the segments that are done, and the rest
+pub record Walked : Type 0 where
+  pub done : List Buffer
+  pub rest : List Buffer

@@ -15,10 +15,12 @@
 mod iter;
 mod list;
 mod seg;
+mod walk;
 
 pub use iter::SegIter;
 pub use list::SegList;
 pub use seg::Seg;
+pub use walk::Walk;
 
 #[cfg(test)]
 mod tests;

@@ -1,5 +1,4 @@
 pub mod Steps
-pub mod Units
 pub mod EachItem
 pub mod Written
 pub mod Ordered

@@ -50,12 +50,3 @@ IsWritten before after = (after ≡ with_packet before (packet_of after)) × (le
 -- the operation with an answer's packet and digest field
 abbrev pub with_answer : {C : Type 0} → Op C → Answer → Op C
 with_answer op a = record op { spec = record op.spec { digest = a.digest }; chain = with_packet op.chain a.packet }
-
--- from any text on, the n bytes at `at` of c are taken in behind it, and what comes out lies in their place in d
-pub record TakesIn {M : Type 0} (holds : List ℕ → List ℕ → List ℕ → M → List ℕ → Type 0) (made : List ℕ → List ℕ → List ℕ → List ℕ)
-    (before after : M) (c d : List Buffer) (at n : ℕ) : Type 0 where
-  pub out : List ℕ
-  pub size : length out ≡ n
-  pub written : d ≡ with_packet c (laid_at at out (packet_of c))
-  pub works : (key iv aad text : List ℕ) → holds key iv aad before text → holds key iv aad after (text ++ take n (drop at (packet_of c)))
-      × (made key iv (text ++ take n (drop at (packet_of c))) ≡ made key iv text ++ out)

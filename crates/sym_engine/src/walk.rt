@@ -2,72 +2,60 @@
 ghost use Rattle.std.specs.Prelude.{◌≡◌, ◌<◌, ◌≤◌, ◌+◌, ◌++◌, ◌%◌, ◌^◌, [], List, ℕ, length, take, drop};
 ghost use Rattle.crypto_model.specs.Chain.{laid_at};
 ghost use Rattle.mbuf_chain.specs.Chain.{packet_of, with_packet};
-ghost use Rattle.sym_engine.specs.Working.{TakesIn};
+ghost use Rattle.crypto_model.specs.Process.{bytes_in};
 
 use crate::mode::{Absorb, Mode};
-use mbuf_chain::Mbuf;
+use crypto_model::Range;
+use mbuf_chain::{Mbuf, Work};
 
-const MAX_UNIT: usize = 16;
-
-// A unit that lies in several segments.
-fn gather<M: Mode>(mode: &mut M, chain: &mut Mbuf, at: usize, unit: usize)
-    requires unit { unit ≡ M.unit }
-    requires inside { at + unit ≤ length (packet_of chain.old) }
-    ensures works { TakesIn M.holds M.made mode.old mode.new chain.old chain.new at unit }
-{
-    let mut bytes = [0; MAX_UNIT];
-    let bytes = &mut bytes[..unit];
-    chain.read_at(at, bytes);
-    mode.feed(bytes);
-    chain.write_at(at, bytes);
+// A mode as what works on a packet.
+struct Walking<M> {
+    mode: M,
 }
 
-// The whole units at the front of what is left that lie in one segment, or else one unit. Answers how many
-// bytes they are.
-fn take_in<M: Mode>(mode: &mut M, chain: &mut Mbuf, at: usize, left: usize) -> usize
-    requires inside { at + left ≤ length (packet_of chain.old) }
-    requires some { 0 < left }
-    requires whole { left % M.unit ≡ 0 }
-    ensures count { (0 < result) × (result ≤ left) × (result % M.unit ≡ 0) }
-    ensures works { TakesIn M.holds M.made mode.old mode.new chain.old chain.new at result }
-{
-    let unit = mode.unit();
-    let n = chain.piece(at, left).len() / unit * unit;
-    if n == 0 {
-        gather(mode, chain, at, unit);
-        return unit;
+impl<M: Mode> Work for Walking<M> {
+    ghost Begun = { List ℕ × List ℕ × List ℕ };
+
+    ghost unit = { M.unit };
+
+    ghost holds = { λ begun s text. M.holds begun.0 begun.1 begun.2 s.mode text };
+
+    ghost made = { λ begun text. M.made begun.0 begun.1 text };
+
+    ghost unit_range = { M.unit_range };
+
+    ghost made_of_nothing = { λ begun. M.made_of_nothing begun.0 begun.1 };
+
+    fn unit(&self) -> usize {
+        self.mode.unit()
     }
-    let piece = chain.piece_mut(at, n);
-    mode.feed(piece);
-    n
+
+    fn feed(&mut self, piece: &mut [u8]) {
+        self.mode.feed(piece);
+    }
 }
 
-/// Works on a range of a packet in place.
-pub(crate) fn work_on<M: Mode>(mode: &mut M, chain: &mut Mbuf, off: usize, len: usize)
-    requires inside { off + len ≤ length (packet_of chain.old) }
-    requires whole { len % M.unit ≡ 0 }
-    ensures { (key iv aad : List ℕ) → M.holds key iv aad mode.old []
-        → M.holds key iv aad mode.new (take len (drop off (packet_of chain.old)))
-        × (chain.new ≡ with_packet chain.old (laid_at off (M.made key iv (take len (drop off (packet_of chain.old)))) (packet_of chain.old))) }
+/// Works on a range of a packet in place, and gives the mode back.
+pub(crate) fn work_on<M: Mode>(mode: M, chain: &mut Mbuf, range: Range) -> M
+    requires inside { range.off + range.len ≤ length (packet_of chain.old) }
+    requires whole { range.len % M.unit ≡ 0 }
+    ensures { (key iv aad : List ℕ) → M.holds key iv aad mode []
+        → M.holds key iv aad result (bytes_in range (packet_of chain.old))
+        × (chain.new ≡ with_packet chain.old (laid_at range.off (M.made key iv (bytes_in range (packet_of chain.old))) (packet_of chain.old))) }
 {
-    let _all = chain.len();
-    let mut done = 0;
-    while done < len {
-        done += take_in(mode, chain, off + done, len - done);
-    }
+    let mut walking = Walking { mode };
+    chain.work_on(range.off as usize, range.len as usize, &mut walking);
+    let Walking { mode } = walking;
+    mode
 }
 
 /// Feeds a range of a packet.
-pub(crate) fn feed_range<A: Absorb>(into: &mut A, chain: &Mbuf, off: usize, len: usize)
-    requires inside { off + len ≤ length (packet_of chain.now) }
+pub(crate) fn feed_range<A: Absorb>(into: &mut A, chain: &Mbuf, range: Range)
+    requires inside { range.off + range.len ≤ length (packet_of chain.now) }
     ensures { (begun : A.Begun) (text : List ℕ) → A.holds begun into.old text
-        → A.holds begun into.new (text ++ take len (drop off (packet_of chain.now))) }
+        → A.holds begun into.new (text ++ bytes_in range (packet_of chain.now)) }
 {
-    let _all = chain.len();
-    let mut done = 0;
-    while done < len {
-        let piece = chain.piece(off + done, len - done);
+    for piece in chain.pieces(range.off as usize, range.len as usize) {
         into.absorb(piece);
-        done += piece.len();
     }
 }

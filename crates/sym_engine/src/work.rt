@@ -47,12 +47,17 @@ fn crypt(step: &CipherStep, iv: [u8; 16], chain: &mut Mbuf, range: Range)
     requires whole { step.now.alg ≡ AesCbc → range.len % 16 ≡ 0 }
     ensures { chain.new ≡ with_packet chain.old (laid_at range.off (crypted step.now.alg step.now.dir step.now.key iv (bytes_in range (packet_of chain.old))) (packet_of chain.old)) }
 {
-    let (off, len) = (range.off as usize, range.len as usize);
     match step.alg {
-        CipherAlg::AesCtr => work_on(&mut Ctr::new(&step.key, iv), chain, off, len),
+        CipherAlg::AesCtr => {
+            work_on(Ctr::new(&step.key, iv), chain, range);
+        }
         CipherAlg::AesCbc => match step.dir {
-            Dir::Encrypt => work_on(&mut CbcEnc::new(&step.key, iv), chain, off, len),
-            Dir::Decrypt => work_on(&mut CbcDec::new(&step.key, iv), chain, off, len),
+            Dir::Encrypt => {
+                work_on(CbcEnc::new(&step.key, iv), chain, range);
+            }
+            Dir::Decrypt => {
+                work_on(CbcDec::new(&step.key, iv), chain, range);
+            }
         },
     }
 }
@@ -63,7 +68,7 @@ fn fed(step: &AuthStep, chain: &Mbuf, range: Range) -> Hmac
     ensures { HmacHolds step.now.hash step.now.key result (bytes_in range (packet_of chain.now)) }
 {
     let mut code = Hmac::start(step.key());
-    feed_range(&mut code, chain, range.off as usize, range.len as usize);
+    feed_range(&mut code, chain, range);
     code
 }
 
@@ -135,9 +140,7 @@ fn seal_range(seal: GcmSeal<'_>, chain: &mut Mbuf, range: Range) -> [u8; 16]
         → (chain.new ≡ with_packet chain.old (laid_at range.off (gcm_text (cipher key) iv (bytes_in range (packet_of chain.old))) (packet_of chain.old)))
         × (result ≡ gcm_tag (cipher key) iv aad (gcm_text (cipher key) iv (bytes_in range (packet_of chain.old)))) }
 {
-    let mut seal = seal;
-    work_on(&mut seal, chain, range.off as usize, range.len as usize);
-    seal.tag()
+    work_on(seal, chain, range).tag()
 }
 
 // Compares the tag of a range.
@@ -155,12 +158,7 @@ fn verify_range<'a>(
         × IfOk result (λ plain. IsOpened key iv plain []) }
 {
     let mut ciphertext = ciphertext;
-    feed_range(
-        &mut ciphertext,
-        chain,
-        range.off as usize,
-        range.len as usize,
-    );
+    feed_range(&mut ciphertext, chain, range);
     ciphertext.verify(tag)
 }
 
@@ -192,13 +190,7 @@ fn open<C>(step: &AeadStep, op: &mut Op<C>, digest: &[u8; 64]) -> bool
     let ciphertext = GcmOpen::new(step.key(), iv, op.spec().aad.bytes());
     match verify_range(ciphertext, op.chain(), range, &tag[..n]) {
         Ok(plain) => {
-            let mut plain = plain;
-            work_on(
-                &mut plain,
-                op.chain_mut(),
-                range.off as usize,
-                range.len as usize,
-            );
+            work_on(plain, op.chain_mut(), range);
             true
         }
         Err(BadTag) => false,

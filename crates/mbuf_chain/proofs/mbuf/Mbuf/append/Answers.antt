@@ -5,17 +5,29 @@ use Rattle.mbuf_chain.specs.Ends.{last_of, zeros_behind, no_buffer}
 use Rattle.mbuf_chain.specs.Chain.{packet_of}
 use Rattle.mbuf_chain.proofs.EndCuts.{zeros_behind-is, zeros_behind-room}
 use Rattle.mbuf_chain.proofs.EndPackets.{packet-zeros_behind}
+use Rattle.mbuf_chain.proofs.Kept.{kept_grown}
 use Rattle.mbuf_chain.proofs.mbuf.Mbuf.append.Goals as goal
+
+pub invariant_of-self-2 : goal.invariant_of-self-2
+invariant_of-self-2 c =
+    let b : Buffer = c.last_mut-seg.result.now in
+    let segs : List Buffer = c.self.inside.segs in
+    let n = c.args.n in
+    let set : c.set.new.self ≡ cut_at (length b.before) (length b.body + n) (bytes_of b) =
+    c.set.ensures ∙ ap (λ k. cut_at k (c.len-len.result + n) (bytes_of b)) c.off-off.ensures.value ∙ ap (λ k. cut_at (length b.before) (k + n) (bytes_of b)) c.len-len.ensures.value in
+    let fits : n ≤ length b.after = omega (arith, c.len-len.ensures, c.off-off.ensures) in
+    kept_grown segs c.self.inside.len (length segs - 1) (length b.before) (length b.body + n) n c.len-len.result b c.set.new.self c.zero.new.piece c.self.invariant
+    (omega (arith, c.self.invariant.some)) c.last_mut-seg.ensures.value set (ap (λ (x : Buffer). length x.body) set ∙ zeros_behind-room n b fits)
 
 pub returns-clause-grown : goal.returns-clause-grown
 returns-clause-grown c =
-    let b : Buffer = c.get_mut-seg.result.now in
+    let b : Buffer = c.last_mut-seg.result.now in
     let n = c.args.n in
     let old : List Buffer = c.args.self.now in
-    let i = c.len-last.result - 1 in
-    let some : 0 < length old = omega (arith, c.self.invariant, ap length c.self.view_is) in
-    let at : i ≡ length old - 1 = ap (λ k. k - 1) (c.len-last.ensures.value ∙ ap length c.self.view_is) in
-    let same : b ≡ last_of old = c.get_mut-seg.ensures.value ∙ ap (λ (segs : List Buffer). slice_index_or segs i b) c.self.view_is ∙ ap (λ k. slice_index_or old k b) at ∙ get_or_default old (length old - 1) b no_buffer (omega arith) in
+    let i = length c.self.inside.segs - 1 in
+    let some : 0 < length old = omega (arith, c.self.invariant.some, ap length c.self.view_is) in
+    let at : i ≡ length old - 1 = ap (λ (segs : List Buffer). length segs - 1) c.self.view_is in
+    let same : b ≡ last_of old = c.last_mut-seg.ensures.value ∙ ap (λ (segs : List Buffer). slice_index_or segs i b) c.self.view_is ∙ ap (λ k. slice_index_or old k b) at ∙ get_or_default old (length old - 1) b no_buffer (omega arith) in
     let set : c.set.new.self ≡ cut_at (length b.before) (length b.body + n) (bytes_of b) =
     c.set.ensures ∙ ap (λ k. cut_at k (c.len-len.result + n) (bytes_of b)) c.off-off.ensures.value ∙ ap (λ k. cut_at (length b.before) (k + n) (bytes_of b)) c.len-len.ensures.value in
     let fits : n ≤ length b.after = omega (arith, c.len-len.ensures, c.off-off.ensures) in
@@ -30,4 +42,4 @@ returns-clause-grown c =
 
 pub returns-clause-packet : goal.returns-clause-packet
 returns-clause-packet c =
-    ap packet_of (returns-clause-grown c) ∙ packet-zeros_behind c.args.n c.args.self.now (omega (arith, c.self.invariant, ap length c.self.view_is))
+    ap packet_of (returns-clause-grown c) ∙ packet-zeros_behind c.args.n c.args.self.now (omega (arith, c.self.invariant.some, ap length c.self.view_is))

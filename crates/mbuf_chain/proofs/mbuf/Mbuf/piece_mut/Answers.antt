@@ -2,7 +2,13 @@ use Rattle.std.proofs.Common.{List, refl, sym, ap, subst, ◌∙◌, take, drop,
 use Rattle.seg_list.specs.Buffer.{Buffer, relaid_at}
 use Rattle.mbuf_chain.proofs.Pieces.{piece_lent, piece_laid-at}
 use Rattle.mbuf_chain.specs.Piece.{LiesAt}
+use Rattle.mbuf_chain.proofs.Kept.{kept_laid}
 use Rattle.mbuf_chain.proofs.mbuf.Mbuf.piece_mut.Goals as goal
+
+pub invariant_of-self-lent : goal.invariant_of-self-lent
+invariant_of-self-lent c = λ w.
+    let b = c.get_mut-seg.result.now in
+    kept_laid c.self.inside.segs c.self.inside.len c.args.off c.find-i.result.0 c.find-i.result.1 b w c.self.invariant (c.find-i.ensures.lies b (sym c.get_mut-seg.ensures.value))
 
 pub returns : goal.returns
 returns c =

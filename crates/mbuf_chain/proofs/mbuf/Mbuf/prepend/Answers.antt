@@ -5,15 +5,27 @@ use Rattle.mbuf_chain.specs.Chain.{packet_of}
 use Rattle.mbuf_chain.specs.Ends.{first_of, zeros_before, no_buffer}
 use Rattle.mbuf_chain.proofs.EndCuts.{zeros_before-is, zeros_before-room}
 use Rattle.mbuf_chain.proofs.EndPackets.{packet-zeros_before}
+use Rattle.mbuf_chain.proofs.Kept.{kept_grown}
 use Rattle.mbuf_chain.proofs.mbuf.Mbuf.prepend.Goals as goal
+
+pub invariant_of-self-2 : goal.invariant_of-self-2
+invariant_of-self-2 c =
+    let b : Buffer = c.first_mut-seg.result.now in
+    let segs : List Buffer = c.self.inside.segs in
+    let n = c.args.n in
+    let set : c.set.new.self ≡ cut_at (length b.before - n) (length b.body + n) (bytes_of b) =
+    c.set.ensures ∙ ap (λ k. cut_at (k - n) (c.len-len.result + n) (bytes_of b)) c.off-off.ensures.value
+    ∙ ap (λ k. cut_at (length b.before - n) (k + n) (bytes_of b)) c.len-len.ensures.value in
+    kept_grown segs c.self.inside.len 0 (length b.before - n) (length b.body + n) n 0 b c.set.new.self c.zero.new.piece c.self.invariant
+    c.self.invariant.some c.first_mut-seg.ensures.value set (ap (λ (x : Buffer). length x.body) set ∙ zeros_before-room n b (omega (arith, c.off-off.ensures.value)))
 
 pub returns-clause-grown : goal.returns-clause-grown
 returns-clause-grown c =
-    let b : Buffer = c.get_mut-seg.result.now in
+    let b : Buffer = c.first_mut-seg.result.now in
     let n = c.args.n in
     let old : List Buffer = c.args.self.now in
-    let some : 0 < length old = omega (arith, c.self.invariant, ap length c.self.view_is) in
-    let same : b ≡ first_of old = c.get_mut-seg.ensures.value ∙ ap (λ (segs : List Buffer). slice_index_or segs 0 b) c.self.view_is ∙ get_or_default old 0 b no_buffer some in
+    let some : 0 < length old = omega (arith, c.self.invariant.some, ap length c.self.view_is) in
+    let same : b ≡ first_of old = c.first_mut-seg.ensures.value ∙ ap (λ (segs : List Buffer). slice_index_or segs 0 b) c.self.view_is ∙ get_or_default old 0 b no_buffer some in
     let set : c.set.new.self ≡ cut_at (length b.before - n) (length b.body + n) (bytes_of b) =
     c.set.ensures ∙ ap (λ k. cut_at (k - n) (c.len-len.result + n) (bytes_of b)) c.off-off.ensures.value
     ∙ ap (λ k. cut_at (length b.before - n) (k + n) (bytes_of b)) c.len-len.ensures.value in
@@ -29,4 +41,4 @@ returns-clause-grown c =
 
 pub returns-clause-packet : goal.returns-clause-packet
 returns-clause-packet c =
-    ap packet_of (returns-clause-grown c) ∙ packet-zeros_before c.args.n c.args.self.now (omega (arith, c.self.invariant, ap length c.self.view_is))
+    ap packet_of (returns-clause-grown c) ∙ packet-zeros_before c.args.n c.args.self.now (omega (arith, c.self.invariant.some, ap length c.self.view_is))

@@ -1,12 +1,11 @@
 -- Segments that are filled one after another.
-use Rattle.std.proofs.Common.{◌≡◌, ℕ, ◌+◌, ◌-◌, ◌*◌, ◌/◌, ◌≤◌, List, [], ◌∷◌, ◌++◌, length, take, drop, replicate, slice_set, slice_index_or, refl, sym, ap, ◌∙◌, append_assoc, arith, length-append}
+use Rattle.std.proofs.Common.{◌≡◌, ℕ, ◌+◌, ◌-◌, ◌*◌, ◌/◌, ◌≤◌, List, [], ◌∷◌, ◌++◌, length, take, drop, replicate, refl, sym, ap, ◌∙◌, append_assoc, arith, length-append}
 use mathlib.Core.List.{append-nil}
 use Rattle.std.specs.List.{sum_by}
-use Rattle.std.proofs.lemmas.List.{length-take, length-drop, get_or_push, map-append}
+use Rattle.std.proofs.lemmas.List.{length-take, length-drop, map-append}
 use Rattle.std.proofs.lemmas.List.Sums.{sum_by-cons, sum_by_push}
 use Rattle.std.proofs.lemmas.List.Folds.{sum_by-replicate}
 use Rattle.std.proofs.lemmas.Grind.{flat_map-append}
-use Rattle.std.proofs.Math.Seq.{set-append_seam}
 use Rattle.seg_list.specs.Buffer.{Buffer, IsWhole, cut_at}
 use Rattle.mbuf_chain.specs.Chain.{packet_of, shape_of}
 use Rattle.capture_io.specs.Filled.{filled_shape}
@@ -15,7 +14,7 @@ use Rattle.capture_io.specs.declared.header.ReadStop.{ReadStop}
 use Rattle.capture_io.specs.declared.header.ReadStop.TheVariants.{Fault, BadCapture, TooLarge, OutOfMemory}
 
 -- the first len bytes of a whole buffer
-cut_whole : (len : ℕ) (xs : List ℕ) (r : Buffer) → len ≤ 2048 → r ≡ cut_at 0 len xs → IsWhole r → (length r.before ≡ 0) × (length r.body ≡ len)
+pub cut_whole : (len : ℕ) (xs : List ℕ) (r : Buffer) → len ≤ 2048 → r ≡ cut_at 0 len xs → IsWhole r → (length r.before ≡ 0) × (length r.body ≡ len)
 cut_whole len xs r fits is whole =
     let before : length r.before ≡ 0 = ap (λ (b : Buffer). length b.before) is in
     let body : length r.body ≡ length (take len xs) = ap (λ (b : Buffer). length b.body) is in
@@ -25,28 +24,14 @@ cut_whole len xs r fits is whole =
 packet-pushed : (c : List Buffer) (b : Buffer) → packet_of (c ++ b ∷ []) ≡ packet_of c ++ b.body
 packet-pushed c b = flat_map-append (λ (x : Buffer). x.body) c (b ∷ []) ∙ ap (λ (ys : List ℕ). packet_of c ++ ys) (append-nil b.body)
 
--- segment b is linked behind old, lent as r, and left as d
-module _ (c old : List Buffer) (b r d : Buffer) (i : ℕ) (is : c ≡ old ++ b ∷ []) (at : i ≡ length c - 1) where
-  last : length old ≡ i
-  last = omega (arith, ap length is, length-append old (b ∷ []))
+pub found_more : (old : List Buffer) (d : Buffer) (bytes more : List ℕ) → bytes ≡ d.body ++ more → packet_of old ++ bytes ≡ packet_of (old ++ d ∷ []) ++ more
+found_more old d bytes more found =
+    ap (λ (ys : List ℕ). packet_of old ++ ys) found ∙ sym (append_assoc (packet_of old) d.body more) ∙ ap (λ (ys : List ℕ). ys ++ more) (sym (packet-pushed old d))
 
-  lent : r ≡ slice_index_or c i r → r ≡ b
-  lent value = value ∙ ap (λ (l : List Buffer). slice_index_or l i r) is ∙ get_or_push old b r i last
-
-  filled : slice_set c i d ≡ old ++ d ∷ []
-  filled = ap (λ (l : List Buffer). slice_set l i d) is ∙ ap (λ k. slice_set (old ++ b ∷ []) k d) (sym last) ∙ set-append_seam old b [] d
-
-  pub found_more : (bytes more : List ℕ) → bytes ≡ d.body ++ more → packet_of old ++ bytes ≡ packet_of (slice_set c i d) ++ more
-  found_more bytes more found =
-      ap (λ (ys : List ℕ). packet_of old ++ ys) found ∙ sym (append_assoc (packet_of old) d.body more)
-      ∙ ap (λ (ys : List ℕ). ys ++ more) (sym (packet-pushed old d) ∙ ap packet_of (sym filled))
-
-  pub shape_more : (len : ℕ) (xs : List ℕ) → len ≤ 2048 → r ≡ slice_index_or c i r → b ≡ cut_at 0 len xs → IsWhole r
-      → (length d.before ≡ length r.before) × (length d.body ≡ length r.body) → shape_of (slice_set c i d) ≡ shape_of old ++ (0, len) ∷ []
-  shape_more len xs fits value cut whole stays =
-      let r_is = cut_whole len xs r fits (lent value ∙ cut) whole in
-      ap shape_of filled ∙ map-append (λ (x : Buffer). (length x.before, length x.body)) old (d ∷ [])
-      ∙ ap (λ n. shape_of old ++ (n, length d.body) ∷ []) (stays.0 ∙ r_is.0) ∙ ap (λ n. shape_of old ++ (0, n) ∷ []) (stays.1 ∙ r_is.1)
+pub shape_more : (old : List Buffer) (d : Buffer) (len : ℕ) → (length d.before ≡ 0) × (length d.body ≡ len) → shape_of (old ++ d ∷ []) ≡ shape_of old ++ (0, len) ∷ []
+shape_more old d len is =
+    map-append (λ (x : Buffer). (length x.before, length x.body)) old (d ∷ [])
+    ∙ ap (λ n. shape_of old ++ (n, length d.body) ∷ []) is.0 ∙ ap (λ n. shape_of old ++ (0, n) ∷ []) is.1
 
 abbrev bytes_in : List (ℕ × ℕ) → ℕ
 bytes_in = sum_by (λ p. p.1)

@@ -50,9 +50,36 @@ fn fill_seg<S: Source>(src: &mut S, seg: &mut Seg, at: u64) -> Result<(), ReadSt
     Ok(())
 }
 
-// Reads so many bytes into one more segment. It is in the list before it is filled, so that the list
-// holds all that were taken.
+// Takes a segment of the store and reads so many bytes into it. Where that stops, the store has it back.
 fn read_seg<S: Source, P: SegStore>(
+    src: &mut S,
+    store: &mut P,
+    len: usize,
+    at: u64,
+) -> Result<Seg, ReadStop>
+    requires endless { P.endless }
+    requires fits { len ≤ 2048 }
+    ensures found { S.tells → IfOk result (λ s. S.left src.old ≡ s.body ++ S.left src.new) }
+    ensures shape { IfOk result (λ s. (length s.before ≡ 0) × (length s.body ≡ len)) }
+    ensures stop { S.tells → IfErr result (StopsPacket len at (S.left src.old)) }
+    ensures taken { S.tells → ((bytes : List ℕ) × (S.left src.old ≡ bytes ++ S.left src.new)) }
+    ensures never { IfErr result (CanStopPacket at) }
+    ensures later { S.faults src.old ≤ S.faults src.new }
+    ensures cause { IsErrOf result ReadStop.Fault → Rose (S.faults src.old) (S.faults src.new) }
+{
+    let mut seg = take_seg(store)?;
+    seg.set(0, len);
+    match fill_seg(src, &mut seg, at) {
+        Ok(()) => Ok(seg),
+        Err(stop) => {
+            store.give(seg);
+            Err(stop)
+        }
+    }
+}
+
+// Reads so many bytes into one more segment, which is full before it is in the list. Where that stops, the store has it back.
+fn push_seg<S: Source, P: SegStore>(
     src: &mut S,
     store: &mut P,
     segs: &mut SegList,
@@ -70,14 +97,14 @@ fn read_seg<S: Source, P: SegStore>(
     ensures later { S.faults src.old ≤ S.faults src.new }
     ensures cause { IsErrOf result ReadStop.Fault → Rose (S.faults src.old) (S.faults src.new) }
 {
-    let mut seg = take_seg(store)?;
-    seg.set(0, len);
-    if let Err(seg) = segs.push_back(seg) {
-        store.give(seg);
-        return Err(ReadStop::OutOfMemory);
+    let seg = read_seg(src, store, len, at)?;
+    match segs.push_back(seg) {
+        Ok(()) => Ok(()),
+        Err(seg) => {
+            store.give(seg);
+            Err(ReadStop::OutOfMemory)
+        }
     }
-    let last = segs.len() - 1;
-    fill_seg(src, segs.get_mut(last), at)
 }
 
 // Reads so many bytes into segments that are full but for the last.
@@ -101,10 +128,10 @@ fn read_segs<S: Source, P: SegStore>(
 {
     let mut left = len;
     while left > SEG_SIZE {
-        read_seg(src, store, segs, SEG_SIZE, at)?;
+        push_seg(src, store, segs, SEG_SIZE, at)?;
         left -= SEG_SIZE;
     }
-    read_seg(src, store, segs, left, at)
+    push_seg(src, store, segs, left, at)
 }
 
 fn give_back<P: SegStore>(store: &mut P, mut segs: SegList) {

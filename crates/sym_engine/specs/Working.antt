@@ -43,6 +43,13 @@ abbrev pub outcome : Bool → Work → Option Work
 outcome true w = Some w
 outcome false w = None
 
+-- the chain that an operation's transforms work on and write to
+abbrev pub target_of : {C : Type 0} → Op C → List Buffer
+target_of op = op.chain
+
+abbrev pub with_target : {C : Type 0} → Op C → List Buffer → Op C
+with_target op chain = record op { chain = chain }
+
 -- the chain has another packet of this length, and is else as it was
 abbrev pub IsWritten : List Buffer → List Buffer → Type 0
 IsWritten before after = (after ≡ with_packet before (packet_of after)) × (length (packet_of after) ≡ length (packet_of before))

@@ -10,9 +10,8 @@ ghost use Rattle.gcm_core.specs.Sealing.{IsSealed};
 ghost use Rattle.gcm_core.specs.Opening.{IsAbsorbed, IsOpened};
 ghost use Rattle.hmac_core.specs.States.{HmacHolds};
 ghost use Rattle.mbuf_chain.specs.Chain.{packet_of, with_packet};
-ghost use Rattle.crypto_op.specs.Op.{with_chain};
 ghost use Rattle.sym_session.specs.Plain.{plain};
-ghost use Rattle.sym_engine.specs.Working.{asked, work_of, place_ready, ready, outcome, IsWritten};
+ghost use Rattle.sym_engine.specs.Working.{asked, target_of, with_target, work_of, place_ready, ready, outcome, IsWritten};
 
 use crate::walk::{feed_range, work_on};
 use aes_modes::{CbcDec, CbcEnc, Ctr};
@@ -103,8 +102,8 @@ fn write_digest(place: DigestPlace, code: &[u8], chain: &mut Mbuf, digest: &mut 
 }
 
 fn cipher_work<C>(step: &CipherStep, op: &mut Op<C>)
-    requires { ready (asked op.old.spec (packet_of op.old.chain)) (Cipher step.now.alg step.now.dir step.now.key) }
-    ensures { op.new ≡ with_chain op.old (with_packet op.old.chain (laid_at op.old.spec.cipher.off (crypted step.now.alg step.now.dir step.now.key op.old.spec.iv (bytes_in op.old.spec.cipher (packet_of op.old.chain))) (packet_of op.old.chain))) }
+    requires { ready (asked op.old.spec (packet_of (target_of op.old))) (Cipher step.now.alg step.now.dir step.now.key) }
+    ensures { op.new ≡ with_target op.old (with_packet (target_of op.old) (laid_at op.old.spec.cipher.off (crypted step.now.alg step.now.dir step.now.key op.old.spec.iv (bytes_in op.old.spec.cipher (packet_of (target_of op.old)))) (packet_of (target_of op.old)))) }
 {
     let iv = block(op.spec().iv.bytes());
     let range = op.spec().cipher;
@@ -112,11 +111,11 @@ fn cipher_work<C>(step: &CipherStep, op: &mut Op<C>)
 }
 
 fn auth_work<C>(step: &AuthStep, op: &mut Op<C>, digest: &mut [u8; 64]) -> bool
-    requires { ready (asked op.old.spec (packet_of op.old.chain)) (Auth step.now.hash step.now.act step.now.key step.now.len) }
-    ensures works { (p : List ℕ) → worked (Auth step.now.hash step.now.act step.now.key step.now.len) (asked op.old.spec p) (work_of op.old.chain digest.old) ≡ outcome result (work_of op.new.chain digest.new) }
-    ensures kept { op.new ≡ with_chain op.old op.new.chain }
-    ensures written { IsWritten op.old.chain op.new.chain }
-    ensures unless { result ≡ false → op.new.chain ≡ op.old.chain }
+    requires { ready (asked op.old.spec (packet_of (target_of op.old))) (Auth step.now.hash step.now.act step.now.key step.now.len) }
+    ensures works { (p : List ℕ) → worked (Auth step.now.hash step.now.act step.now.key step.now.len) (asked op.old.spec p) (work_of (target_of op.old) digest.old) ≡ outcome result (work_of (target_of op.new) digest.new) }
+    ensures kept { op.new ≡ with_target op.old (target_of op.new) }
+    ensures written { IsWritten (target_of op.old) (target_of op.new) }
+    ensures unless { result ≡ false → target_of op.new ≡ target_of op.old }
 {
     let code = fed(step, op.chain(), op.spec().auth);
     let (place, n) = (op.spec().place, step.digest_len());
@@ -164,10 +163,10 @@ fn verify_range<'a>(
 
 // Encrypts, and writes the tag of the ciphertext.
 fn seal<C>(step: &AeadStep, op: &mut Op<C>, digest: &mut [u8; 64])
-    requires { ready (asked op.old.spec (packet_of op.old.chain)) (Aead Dir.Encrypt step.now.key step.now.tag_len step.now.aad_len) }
-    ensures works { (p : List ℕ) → worked (Aead Dir.Encrypt step.now.key step.now.tag_len step.now.aad_len) (asked op.old.spec p) (work_of op.old.chain digest.old) ≡ Some (work_of op.new.chain digest.new) }
-    ensures kept { op.new ≡ with_chain op.old op.new.chain }
-    ensures written { IsWritten op.old.chain op.new.chain }
+    requires { ready (asked op.old.spec (packet_of (target_of op.old))) (Aead Dir.Encrypt step.now.key step.now.tag_len step.now.aad_len) }
+    ensures works { (p : List ℕ) → worked (Aead Dir.Encrypt step.now.key step.now.tag_len step.now.aad_len) (asked op.old.spec p) (work_of (target_of op.old) digest.old) ≡ Some (work_of (target_of op.new) digest.new) }
+    ensures kept { op.new ≡ with_target op.old (target_of op.new) }
+    ensures written { IsWritten (target_of op.old) (target_of op.new) }
 {
     let iv = nonce(op.spec().iv.bytes());
     let (range, place, n) = (op.spec().cipher, op.spec().place, step.tag_len());
@@ -178,11 +177,11 @@ fn seal<C>(step: &AeadStep, op: &mut Op<C>, digest: &mut [u8; 64])
 
 // Decrypts, where the tag is the ciphertext's.
 fn open<C>(step: &AeadStep, op: &mut Op<C>, digest: &[u8; 64]) -> bool
-    requires { ready (asked op.old.spec (packet_of op.old.chain)) (Aead Dir.Decrypt step.now.key step.now.tag_len step.now.aad_len) }
-    ensures works { (p : List ℕ) → worked (Aead Dir.Decrypt step.now.key step.now.tag_len step.now.aad_len) (asked op.old.spec p) (work_of op.old.chain digest.now) ≡ outcome result (work_of op.new.chain digest.now) }
-    ensures kept { op.new ≡ with_chain op.old op.new.chain }
-    ensures written { IsWritten op.old.chain op.new.chain }
-    ensures unless { result ≡ false → op.new.chain ≡ op.old.chain }
+    requires { ready (asked op.old.spec (packet_of (target_of op.old))) (Aead Dir.Decrypt step.now.key step.now.tag_len step.now.aad_len) }
+    ensures works { (p : List ℕ) → worked (Aead Dir.Decrypt step.now.key step.now.tag_len step.now.aad_len) (asked op.old.spec p) (work_of (target_of op.old) digest.now) ≡ outcome result (work_of (target_of op.new) digest.now) }
+    ensures kept { op.new ≡ with_target op.old (target_of op.new) }
+    ensures written { IsWritten (target_of op.old) (target_of op.new) }
+    ensures unless { result ≡ false → target_of op.new ≡ target_of op.old }
 {
     let iv = nonce(op.spec().iv.bytes());
     let (range, n) = (op.spec().cipher, step.tag_len());
@@ -198,11 +197,11 @@ fn open<C>(step: &AeadStep, op: &mut Op<C>, digest: &[u8; 64]) -> bool
 }
 
 fn aead_work<C>(step: &AeadStep, op: &mut Op<C>, digest: &mut [u8; 64]) -> bool
-    requires { ready (asked op.old.spec (packet_of op.old.chain)) (Aead step.now.dir step.now.key step.now.tag_len step.now.aad_len) }
-    ensures works { (p : List ℕ) → worked (Aead step.now.dir step.now.key step.now.tag_len step.now.aad_len) (asked op.old.spec p) (work_of op.old.chain digest.old) ≡ outcome result (work_of op.new.chain digest.new) }
-    ensures kept { op.new ≡ with_chain op.old op.new.chain }
-    ensures written { IsWritten op.old.chain op.new.chain }
-    ensures unless { result ≡ false → op.new.chain ≡ op.old.chain }
+    requires { ready (asked op.old.spec (packet_of (target_of op.old))) (Aead step.now.dir step.now.key step.now.tag_len step.now.aad_len) }
+    ensures works { (p : List ℕ) → worked (Aead step.now.dir step.now.key step.now.tag_len step.now.aad_len) (asked op.old.spec p) (work_of (target_of op.old) digest.old) ≡ outcome result (work_of (target_of op.new) digest.new) }
+    ensures kept { op.new ≡ with_target op.old (target_of op.new) }
+    ensures written { IsWritten (target_of op.old) (target_of op.new) }
+    ensures unless { result ≡ false → target_of op.new ≡ target_of op.old }
 {
     match step.dir() {
         Dir::Encrypt => {
@@ -215,11 +214,11 @@ fn aead_work<C>(step: &AeadStep, op: &mut Op<C>, digest: &mut [u8; 64]) -> bool
 
 /// One transform; false where a digest isn't the computed one.
 pub(crate) fn step_work<C>(step: &Step, op: &mut Op<C>, digest: &mut [u8; 64]) -> bool
-    requires { ready (asked op.old.spec (packet_of op.old.chain)) (plain step.now) }
-    ensures works { (p : List ℕ) → worked (plain step.now) (asked op.old.spec p) (work_of op.old.chain digest.old) ≡ outcome result (work_of op.new.chain digest.new) }
-    ensures kept { op.new ≡ with_chain op.old op.new.chain }
-    ensures written { IsWritten op.old.chain op.new.chain }
-    ensures unless { result ≡ false → op.new.chain ≡ op.old.chain }
+    requires { ready (asked op.old.spec (packet_of (target_of op.old))) (plain step.now) }
+    ensures works { (p : List ℕ) → worked (plain step.now) (asked op.old.spec p) (work_of (target_of op.old) digest.old) ≡ outcome result (work_of (target_of op.new) digest.new) }
+    ensures kept { op.new ≡ with_target op.old (target_of op.new) }
+    ensures written { IsWritten (target_of op.old) (target_of op.new) }
+    ensures unless { result ≡ false → target_of op.new ≡ target_of op.old }
 {
     match step {
         Step::Cipher(step) => {

@@ -5,19 +5,18 @@ ghost use Rattle.std.proofs.Common.{refl, ◌∙◌, subst, sym};
 ghost use Rattle.std.proofs.lemmas.List.{length-map};
 ghost use Rattle.std.specs.VecDeque.{deque_len, deque_capacity};
 ghost use Rattle.std.specs.Arc.{arc_value};
+ghost use Rattle.crypto_op.specs.declared.burst.TheConstants.{MAX_OPS};
 ghost use Rattle.crypto_op.specs.Op.{IsFresh, entry_of};
 
 use crate::moves::{give_out, take_in};
 use crypto_model::OutOfMemory;
-use crypto_op::{Op, OpBurst};
+use crypto_op::{MAX_OPS, Op, OpBurst};
 use dev_core::{Device, Driver, Kind, SetUpRefused, Stats};
 use std::alloc::Global;
 use std::collections::VecDeque;
 use std::mem::replace;
 use std::sync::Arc;
 use sym_session::SessionTable;
-
-const MAX_DEPTH: usize = 4096;
 
 /// A device that processes an operation when it is dequeued, returns operations in the order in which
 /// they came, and never stalls.
@@ -27,7 +26,7 @@ pub struct PlainDriver<C> {
     depth: usize,
     queue: VecDeque<Op<C>>,
     stats: Stats,
-    ghost fits: { (length queue.items ≤ depth) × (depth ≤ deque_capacity queue) × (depth ≤ 4096) },
+    ghost fits: { (length queue.items ≤ depth) × (depth ≤ deque_capacity queue) × (depth ≤ MAX_OPS) },
     ghost fresh: { All IsFresh queue.items },
 }
 
@@ -127,7 +126,7 @@ impl<C> Device<C> for PlainDriver<C> {
         sessions: Arc<SessionTable>,
         depth: usize,
     ) -> Result<(), SetUpRefused> {
-        if depth == 0 || depth > MAX_DEPTH {
+        if depth == 0 || depth > MAX_OPS {
             return Err(SetUpRefused::BadDepth);
         }
         if !self.queue.is_empty() {

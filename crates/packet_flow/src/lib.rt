@@ -1,9 +1,9 @@
 //! The packets of a capture on their way through a queue pair, and back into a capture.
 //!
-//! [`transfer`] reads windows of records. Each record that is begun gets a slot, in the order of the capture. A
-//! record that needs no operation is ready at once. For any other an operation joins the burst, which is offered to
-//! the driver once in a turn. What comes back, in whatever order, is put into the slot that waits for it by the
-//! packet's number on its card, and the records at the front that are ready are written.
+//! [`transfer`] reads a [`Window`] of records. Each packet that is begun gets one of the [`Slots`], in the order of the
+//! capture. A packet that needs no operation is ready at once. For any other an operation joins the burst, which is
+//! offered to the driver once in a turn. What comes back, in whatever order, is put into the slot that waits for it by
+//! the packet's number on its card, and the records at the front that are ready are written.
 //!
 //! So after each turn, in a capture of eight packets:
 //!
@@ -19,17 +19,18 @@
 //!     step                  until the capture is at its end
 //!         fill              where the burst is empty
 //!             advance       record by record: one that waits is begun, or a window is read
-//!                 read_window, begin, write_ready
+//!                 Window::take, Window::read, begin, Slots::write_ready
 //!         turn
 //!             offer         the burst, once
-//!             drain         what comes back, into its slots
-//!         write_ready
+//!             drain         what comes back, into its slots (Slots::settle_all)
+//!         Slots::write_ready
 //! ```
 //!
 //! Contracts speak of these words of `specs`:
 //!
-//! - `IsBetween` of `Slots`: the slots stand for the records that are begun and not written, and the open ones wait
-//!   for just the operations that lie in the burst or in the driver;
+//! - `StandFor` of `Slots`: the slots stand for these packets, which keep their numbers beside them (`Numbered`), and
+//!   the open ones wait for just these operations; `HasWritten` of `Writing`: some in front are written;
+//! - `GoesOn` of `Reads`: what was read so far is the front of every reading of the capture;
 //! - `IsUnderway` of `Passage`: all that is known between two turns;
 //! - `Flowed` of `Flowed`, and `EndsAs` of `Passage`: what was written, counted and taken at the end. The written
 //!   records are the first of `answered_from`, in which each packet is answered by itself, and the operations that the

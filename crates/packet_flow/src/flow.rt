@@ -14,13 +14,13 @@ use crate::passage::Passage;
 use crate::turn::turn;
 use capture_io::{Header, ReadStop, Sink, Source, WriteFault};
 use crypto_model::OutOfMemory;
-use crypto_op::Card;
+use crypto_op::{Card, MAX_OPS};
 use dev_core::Driver;
 use packet_plan::ReadyPlan;
 use std::alloc::Global;
 
-// So many turns that move nothing are suffered, and as many more for each operation that was accepted.
-const PATIENCE: u64 = 4096;
+/// So many turns that move nothing are suffered, and as many more for each operation that was accepted.
+pub const PATIENCE: u64 = 4096;
 
 /// Why a flow ended.
 #[derive(Clone, Copy, Debug, PartialEq, Eq)]
@@ -124,7 +124,7 @@ pub struct Flow {
 /// from 0, which are offered in bursts of at most `size`, the rest of a burst before a new one is begun, and the records
 /// are written in their order as soon as they are answered. The driver holds nothing, and has the plan's sessions.
 ///
-/// A turn that moves nothing is one in which the driver stalled. It may do so 4,096 times, and as often again for each
+/// A turn that moves nothing is one in which the driver stalled. It may do so `PATIENCE` times, and as often again for each
 /// operation that it accepted.
 pub fn transfer<S: Source, K: Sink, D: Driver<Card>>(
     alloc: Global,
@@ -135,7 +135,7 @@ pub fn transfer<S: Source, K: Sink, D: Driver<Card>>(
     out: &mut K,
     dev: &mut D,
 ) -> Flow
-    requires size { (1 ≤ size) × (size ≤ 4096) }
+    requires size { (1 ≤ size) × (size ≤ MAX_OPS) }
     requires sessions { D.sessions dev.old ≡ sessions_of plan.now }
     requires idle { D.held dev.old ≡ [] }
     requires stats { D.stats dev.old ≡ no_stats }
@@ -146,7 +146,7 @@ pub fn transfer<S: Source, K: Sink, D: Driver<Card>>(
         × EndsAs plan.now (before header.now.big (S.left src.old) (K.written out.old) (D.log dev.old) size) S.tells K.tells result.end result.counts
         (outside (S.left src.new) (K.written out.new) (D.held dev.new) (D.stats dev.new) (D.log dev.new) now) }
     ensures ended { S.tells → result.end ≡ FlowEnd.Stopped ReadStop.End → S.left src.new ≡ [] }
-    ensures stalled { result.end ≡ FlowEnd.Stalled → capped (D.stalls dev.old + 4096 * (1 + (D.stats dev.new).enqueued)) ≤ D.stalls dev.new }
+    ensures stalled { result.end ≡ FlowEnd.Stalled → capped (D.stalls dev.old + PATIENCE * (1 + (D.stats dev.new).enqueued)) ≤ D.stalls dev.new }
     ensures stalls { D.stalls dev.old ≤ D.stalls dev.new }
     ensures sessions { D.sessions dev.new ≡ D.sessions dev.old }
     ensures follows { D.follows dev.old dev.new }

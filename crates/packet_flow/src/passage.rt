@@ -6,7 +6,7 @@ use crate::counts::Counts;
 use crate::slots::Slots;
 use crate::window::Window;
 use crypto_model::OutOfMemory;
-use crypto_op::{Card, OpBurst};
+use crypto_op::{Card, MAX_OPS, OpBurst};
 use mbuf_chain::FreshSegs;
 use std::alloc::Global;
 
@@ -32,7 +32,7 @@ pub(crate) struct Passage {
 impl Passage {
     /// Nothing is read yet. Bursts have at most `size` operations.
     pub(crate) fn new(alloc: Global, size: usize) -> Result<Passage, OutOfMemory>
-        requires { size ≤ 4096 }
+        requires { size ≤ MAX_OPS }
         ensures { IfOk result (IsNew size) }
     {
         Ok(Passage {

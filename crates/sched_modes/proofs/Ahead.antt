@@ -1,5 +1,5 @@
 -- What is taken from the front of a ring.
-use Rattle.std.proofs.Common.{◌≡◌, ◌⊎◌, ℕ, zero, suc, ◌+◌, ◌-◌, ◌%◌, ◌^◌, ◌==◌, ◌<◌, ◌≤◌, Bool, true, false, cond, List, [], ◌∷◌, ◌++◌, length, get_or, take, map, refl, ap, ◌∙◌, sym, subst, arith, length-append, inl, inr, Some, None, Option, add-zero}
+use Rattle.std.proofs.Common.{◌≡◌, ℕ, zero, suc, ◌+◌, ◌%◌, ◌^◌, ◌==◌, ◌<◌, ◌≤◌, Bool, true, false, cond, List, [], ◌∷◌, ◌++◌, length, get_or, take, map, refl, ap, ◌∙◌, sym, subst, arith, length-append, inl, inr, Some, None, Option, add-zero}
 use Rattle.std.specs.List.{flat_map, count_by, All, filter}
 use Rattle.std.proofs.lemmas.List.{length-map}
 use Rattle.std.proofs.lemmas.List.Elements.{All-cons, All-head, All-tail, All-nil}
@@ -10,9 +10,9 @@ use Rattle.sched_core.specs.declared.ring.Slot.{Slot}
 use Rattle.sched_core.specs.declared.ring.Slot.TheVariants.{Open, Settled}
 use Rattle.sched_core.specs.declared.ring.Front.TheVariants as Front
 use Rattle.sched_core.specs.Ring.{Ring, front_of}
-use Rattle.sched_core.specs.Pending.{pending, pending_of, open_numbers, held_as, with_pos, times, HoldsOpen, IsSound, SlotDone, RingDone}
-use Rattle.sched_core.proofs.Lookup.{IsIn, one, count-cons, counted, only, is_one}
-use Rattle.sched_core.proofs.PendingMore.{eqb_refl, exactly}
+use Rattle.sched_core.specs.Pending.{pending, pending_of, open_numbers, held_as, with_pos, times, IsSound, SlotDone, RingDone}
+use Rattle.sched_core.proofs.Lookup.{IsIn, count-cons, is_one}
+use Rattle.sched_core.proofs.PendingMore.{exactly}
 use Rattle.sched_modes.specs.Workers.{Taken, NotReady, FrontOpen, IsNewRing, RingFits, cap_of}
 
 next_mod : (a b : ℕ) → a % 2 ^ 64 ≡ b % 2 ^ 64 → (a + 1) % 2 ^ 64 ≡ (b + 1) % 2 ^ 64

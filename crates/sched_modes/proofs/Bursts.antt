@@ -1,16 +1,14 @@
 -- What a burst's operations are to a crew.
-use Rattle.std.proofs.Common.{◌≡◌, ◌≢◌, ℕ, zero, suc, ◌+◌, ◌-◌, ◌%◌, ◌^◌, ◌<◌, ◌≤◌, min, List, [], ◌∷◌, ◌++◌, length, get_or, map, take, drop, Option, None, Some, inl, inr, refl, ap, ◌∙◌, sym, subst, arith, length-take, length-append}
+use Rattle.std.proofs.Common.{◌≡◌, ◌≢◌, ℕ, zero, suc, ◌<◌, ◌≤◌, List, [], ◌∷◌, length, map, take, Option, None, Some, inl, inr, refl, ap, ◌∙◌, arith, length-take}
 use Rattle.std.proofs.lemmas.Bool.Decides.{eqb_tells}
 use Rattle.std.proofs.lemmas.List.{length-map, take-map, take-take}
-use Rattle.std.proofs.Common.{take-add}
 use Rattle.crypto_op.specs.declared.op.Op.{Op}
 use Rattle.crypto_op.specs.Op.{data_len_of}
 use Rattle.crypto_op.specs.Burst.{Burst}
-use Rattle.dev_core.specs.Burst.{front_log, lens, log_entry, offered, rest_of}
+use Rattle.dev_core.specs.Burst.{front_log, lens, log_entry, offered}
 use Rattle.dev_core.specs.declared.driver.LogEntry.{LogEntry}
-use Rattle.sched_core.specs.Logged.{renumbered}
-use Rattle.sched_core.proofs.Renumbered.{length_renumbered, renumbered-append, renumbered-mod}
-use Rattle.sched_modes.specs.Crew.{Grew, Places, free, lengths, only_for, told, total}
+use Rattle.sched_core.proofs.Renumbered.{length_renumbered}
+use Rattle.sched_modes.specs.Crew.{Places, free, lengths, only_for, told, total}
 
 pub length_front_log : {C : Type 0} (n : ℕ) (b : Burst (Op C)) → length (front_log n b) ≡ offered n b
 length_front_log n b = length-map (take n b.ops) log_entry ∙ length-take n b.ops
@@ -39,22 +37,29 @@ only_at t k ops e = elim (eqb_tells k t) [ inl i ↦ rw i.0 refl | inr f ↦ abs
 only_off : (t k : ℕ) (ops : List LogEntry) → k ≢ t → only_for t ops k ≡ []
 only_off t k ops e = elim (eqb_tells k t) [ inl i ↦ absurd (e i.1) | inr f ↦ rw f.0 refl ]
 
-total_below : (w t : ℕ) (ops : List LogEntry) → w ≤ t → total w (λ k. length (only_for t ops k)) ≡ 0
-total_below zero t ops h = refl
-total_below (suc w) t ops h =
-    let r = total_below w t ops (omega (arith, h)) in
-    let o = ap length (only_off t w ops (λ e. omega (arith, e, h))) in
-    omega (arith, r, o)
+total_below : (size : List LogEntry → ℕ) → size [] ≡ 0 → (w t : ℕ) (ops : List LogEntry) → w ≤ t → total w (λ k. size (only_for t ops k)) ≡ 0
+total_below size none zero t ops h = refl
+total_below size none (suc w) t ops h =
+    let r = total_below size none w t ops (omega (arith, h)) in
+    let o = ap size (only_off t w ops (λ e. omega (arith, e, h))) in
+    omega (arith, r, o, none)
 
--- one worker's part is all
-pub total_only : (w t : ℕ) (ops : List LogEntry) → t < w → total w (λ k. length (only_for t ops k)) ≡ length ops
-total_only zero t ops h = absurd (omega (arith, h))
-total_only (suc w) t ops h = elim (eqb_tells w t) [
-  | inl i ↦ let o = ap length (only_at t w ops i.1) in let r = total_below w t ops (let e = i.1 in omega (arith, e)) in omega (arith, o, r)
+-- one worker's part is all, by any measure of lists
+pub total_at : (size : List LogEntry → ℕ) → size [] ≡ 0 → (w t : ℕ) (ops : List LogEntry) → t < w → total w (λ k. size (only_for t ops k)) ≡ size ops
+total_at size none zero t ops h = absurd (omega (arith, h))
+total_at size none (suc w) t ops h = elim (eqb_tells w t) [
+  | inl i ↦ let o = ap size (only_at t w ops i.1) in let r = total_below size none w t ops (let e = i.1 in omega (arith, e)) in omega (arith, o, r)
   | inr f ↦
       let d = f.1 in
       let lt : t < w = omega (arith, h, d) in
-      let o = ap length (only_off t w ops d) in
-      let r = total_only w t ops lt in
-      omega (arith, o, r)
+      let o = ap size (only_off t w ops d) in
+      let r = total_at size none w t ops lt in
+      omega (arith, o, r, none)
 ]
+
+pub total_only : (w t : ℕ) (ops : List LogEntry) → t < w → total w (λ k. length (only_for t ops k)) ≡ length ops
+total_only w t ops h = total_at length refl w t ops h
+
+pub total_same : (w : ℕ) (f g : ℕ → ℕ) → ((k : ℕ) → k < w → f k ≡ g k) → total w f ≡ total w g
+total_same zero f g h = refl
+total_same (suc w) f g h = let r = total_same w f g (λ k lt. h k (omega (arith, lt))) in omega (arith, r, h w (omega arith))

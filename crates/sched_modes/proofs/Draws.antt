@@ -1,6 +1,6 @@
 -- What a pull does.
-use Rattle.std.proofs.Common.{◌≡◌, ℕ, zero, suc, ◌+◌, ◌%◌, ◌^◌, ◌==◌, ◌<◌, ◌≤◌, List, [], ◌∷◌, ◌++◌, length, map, take, Option, None, Some, refl, ap, ◌∙◌, sym, subst, arith, length-append, inl, inr}
-use Rattle.std.specs.List.{flat_map, count_by}
+use Rattle.std.proofs.Common.{◌≡◌, ℕ, ◌+◌, ◌%◌, ◌^◌, ◌==◌, ◌<◌, ◌≤◌, List, [], ◌∷◌, ◌++◌, length, map, take, Option, None, Some, refl, ap, arith, length-append, inl, inr}
+use Rattle.std.specs.List.{count_by}
 use Rattle.std.specs.List.Sorted.{IsPermutation}
 use Rattle.std.proofs.lemmas.Bool.Decides.{eqb_tells}
 use Rattle.std.proofs.lemmas.List.{nil_from_length}
@@ -13,10 +13,9 @@ use Rattle.sched_core.specs.declared.ring.Slot.TheVariants.{Open, Settled}
 use Rattle.sched_core.specs.Ring.{Ring}
 use Rattle.sched_core.specs.Pending.{IsSound, open_numbers, pending_of, times}
 use Rattle.sched_core.proofs.Lookup.{count-cons, is_one}
-use Rattle.sched_modes.specs.Crew.{Crew, DrawsFrom, IsEmptyRing, Kept, account, stalls_of, total}
+use Rattle.sched_modes.specs.Crew.{DrawsFrom, IsEmptyRing, Kept, account, stalls_of}
 use Rattle.sched_modes.specs.Laws.{total_none}
 use Rattle.sched_modes.specs.Workers.{EachStalled, NotReady, Serves, StopIs, places, stop_after, together}
-use Rattle.sched_modes.specs.declared.pull.Stop.{Stop}
 use Rattle.sched_modes.proofs.Ahead.{nothing_pending, open_front}
 use Rattle.sched_modes.proofs.Crews.{count_workers, crew_stalls, deals_out, none_holds, of_worker, some_holds}
 

@@ -1,5 +1,5 @@
 -- A burst by fail-over.
-use Rattle.std.proofs.Common.{◌≡◌, ℕ, ◌<◌, ◌≤◌, ◌+◌, ◌-◌, List, ◌++◌, length, get_or, map, take, drop, min, Option, None, Some, option_map, refl, ap, ◌∙◌, sym, subst, arith, inl, inr}
+use Rattle.std.proofs.Common.{◌≡◌, ℕ, ◌<◌, ◌≤◌, ◌+◌, ◌-◌, List, ◌++◌, length, get_or, map, take, drop, min, Option, None, Some, option_map, refl, ap, ◌∙◌, sym, subst, arith, inl, inr, length-append}
 use Rattle.std.proofs.lemmas.List.{length-map, take_at, drop_at}
 use Rattle.crypto_model.specs.Counts.{Rose}
 use Rattle.crypto_op.specs.declared.op.Op.{Op}
@@ -21,7 +21,7 @@ use Rattle.sched_modes.proofs.Two.{free_after, grew_two, offered_rest, told_two}
 pub sum_two : (w f s : ℕ) (xs ys : List LogEntry) → w ≡ 2 → length xs ≡ f → length ys ≡ s → total w (λ k. length (only_for 0 xs k ++ only_for 1 ys k)) ≡ f + s
 sum_two w f s xs ys two x y =
     let a = total_only w 0 xs (omega (arith, two)) in let b = total_only w 1 ys (omega (arith, two)) in
-    omega (arith, total_joined w (only_for 0 xs) (only_for 1 ys), a, b, x, y)
+    omega (arith, total_joined length length-append w (only_for 0 xs) (only_for 1 ys), a, b, x, y)
 
 abbrev DealsTwo : {C D : Type 0} → Ghosts D C → ℕ → List D → List D → (t : ℕ) → (o o' : Option Places) → ℕ → List LogEntry → List LogEntry → Type 0
 DealsTwo m w devs devs' t o o' n xs ys = DealsOut (λ k. only_for 0 xs k ++ only_for 1 ys k) n (record { turn = t; workers = map (account m) (take w devs); ring = o }) (record { turn = t; workers = map (account m) (take w devs'); ring = o' })

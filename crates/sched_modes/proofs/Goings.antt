@@ -1,5 +1,5 @@
 -- What one call of a worker does, and what that is for all workers.
-use Rattle.std.proofs.Common.{◌≡◌, ℕ, ◌+◌, ◌-◌, ◌<◌, ◌≤◌, List, [], ◌++◌, length, get_or, Option, Some, option_map, refl, ap, ◌∙◌, sym, arith, length-append, inl, inr}
+use Rattle.std.proofs.Common.{◌≡◌, ℕ, ◌+◌, ◌-◌, ◌<◌, ◌≤◌, List, [], ◌++◌, length, get_or, Some, option_map, ap, ◌∙◌, arith, length-append, inl, inr}
 use Rattle.std.proofs.Math.ListN.{set}
 use Rattle.std.specs.List.Sorted.{IsPermutation}
 use Rattle.std.proofs.lemmas.Bool.Decides.{eqb_tells}

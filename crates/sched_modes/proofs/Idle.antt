@@ -8,7 +8,6 @@ use Rattle.sched_core.specs.Pending.{IsSound, pending_of}
 use Rattle.sched_core.specs.Ring.{Ring}
 use Rattle.sched_core.proofs.Dealt.{some_at}
 use Rattle.sched_modes.specs.Pool.{held_in, pending_in}
-use Rattle.sched_modes.specs.Workers.{together}
 use Rattle.sched_modes.specs.declared.pool.Pool.{Pool}
 use Rattle.sched_modes.proofs.Ahead.{length_pending}
 use Rattle.sched_modes.proofs.Held.{held_within, same_at}

@@ -15,3 +15,9 @@ pub mod SizeStep
 pub mod Longest
 pub mod Sized
 pub mod Idle
+pub mod Pieces
+pub mod NextBurst
+pub mod History
+pub mod Fair
+pub mod Assigning
+pub mod Dealing

@@ -5,8 +5,6 @@ use Rattle.std.proofs.lemmas.List.Elements.{All-cons, All-nil}
 use Rattle.crypto_model.specs.Process.{Transform}
 use Rattle.crypto_op.specs.declared.op.Op.{Op}
 use Rattle.crypto_op.specs.Op.{Entry}
-use Rattle.dev_core.specs.declared.driver.LogEntry.{LogEntry}
-use Rattle.sched_core.specs.Logged.{renumbered}
 use Rattle.sched_core.specs.Pending.{numbered, opened, SlotDone}
 
 pub length_numbered : {C : Type 0} (n : ℕ) (es : List (Entry C)) → length (numbered n es) ≡ length es

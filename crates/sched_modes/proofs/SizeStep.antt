@@ -20,7 +20,7 @@ use Rattle.sched_modes.specs.Crew.{Grew, Places, free, of_size, only_for, share,
 use Rattle.sched_modes.specs.Laws.{order_kept, went_same, went_two}
 use Rattle.sched_modes.specs.Pool.{WentOn, pending_in}
 use Rattle.sched_modes.specs.Sizing.{DealtBySize}
-use Rattle.sched_modes.specs.Workers.{Goes, SameBut, Serves, places}
+use Rattle.sched_modes.specs.Workers.{Goes, SameBut, places}
 use Rattle.sched_modes.specs.declared.pool.Pool.{Pool}
 use Rattle.sched_modes.proofs.Bursts.{free_le, length_front_log, length_told}
 use Rattle.sched_modes.proofs.Sizes.{first_entry, first_length, of_size-append, of_size-one, share-append, share-else, share-here}

@@ -1,17 +1,16 @@
 -- A burst by packet size.
-use Rattle.std.proofs.Common.{◌≡◌, ℕ, zero, suc, ◌+◌, ◌-◌, ◌<◌, ◌≤◌, List, [], ◌∷◌, length, get_or, map, take, min, Option, None, Some, refl, ap, ◌∙◌, sym, subst, arith, length-take}
+use Rattle.std.proofs.Common.{◌≡◌, ℕ, zero, suc, ◌-◌, ◌<◌, ◌≤◌, List, [], ◌∷◌, length, get_or, map, take, Option, None, Some, refl, ap, ◌∙◌, sym, subst, arith, length-take}
 use Rattle.std.specs.Prelude.{slice_get}
 use Rattle.std.proofs.lemmas.List.{length-map, take-map, take-take}
 use Rattle.crypto_model.specs.Counts.{Rose}
 use Rattle.crypto_op.specs.declared.op.Op.{Op}
 use Rattle.crypto_op.specs.Op.{data_len_of}
 use Rattle.crypto_op.specs.Burst.{Burst}
-use Rattle.dev_core.specs.Burst.{front_log, lens, log_entry, offered, rest_of}
+use Rattle.dev_core.specs.Burst.{front_log, lens, log_entry, offered}
 use Rattle.dev_core.specs.declared.driver.Driver.{Ghosts}
 use Rattle.dev_core.specs.declared.driver.LogEntry.{LogEntry}
-use Rattle.sched_core.proofs.Dealt.{some_at}
-use Rattle.sched_modes.specs.Admits.{longest, room_for, size_admits}
-use Rattle.sched_modes.specs.Crew.{Account, Crew, DealsOut, Grew, Places, SizeOffers, account, free, lengths, nobody, of_size, share, size_worker, stalls_of, told, total, worker}
+use Rattle.sched_modes.specs.Admits.{room_for, size_admits}
+use Rattle.sched_modes.specs.Crew.{Crew, DealsOut, Grew, Places, SizeOffers, account, free, lengths, of_size, share, size_worker, stalls_of, told, total, worker}
 use Rattle.sched_modes.specs.Sizing.{HasStalled}
 use Rattle.sched_modes.specs.Workers.{Serves}
 use Rattle.sched_modes.proofs.Bursts.{free_le, length_front_log, length_told, lens_is, take_front_log}

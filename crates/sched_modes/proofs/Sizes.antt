@@ -1,6 +1,6 @@
 -- Operations by their sizes.
-use Rattle.std.proofs.Common.{◌≡◌, ◌≢◌, ℕ, zero, suc, ◌+◌, ◌-◌, ◌==◌, ◌<◌, ◌≤◌, Bool, true, false, cond, List, [], ◌∷◌, ◌++◌, length, get_or, map, take, drop, Option, None, Some, option_map, inl, inr, refl, ap, ◌∙◌, sym, subst, arith, length-append}
-use Rattle.std.specs.Prelude.{nat_lt, slice_get, if◌then◌else◌}
+use Rattle.std.proofs.Common.{◌≡◌, ◌≢◌, ℕ, zero, suc, ◌+◌, ◌==◌, ◌<◌, ◌≤◌, Bool, true, false, cond, List, [], ◌∷◌, ◌++◌, length, get_or, map, take, Option, None, Some, inl, inr, refl, ap, ◌∙◌, sym, arith, length-append}
+use Rattle.std.specs.Prelude.{nat_lt, if◌then◌else◌}
 use Rattle.std.specs.List.{filter}
 use Rattle.std.proofs.lemmas.Bool.Decides.{eqb_tells}
 use Rattle.crypto_op.specs.declared.op.Op.{Op}
@@ -8,8 +8,7 @@ use Rattle.crypto_op.specs.Op.{data_len_of}
 use Rattle.crypto_op.specs.Burst.{Burst}
 use Rattle.dev_core.specs.Burst.{front_log, lens, log_entry}
 use Rattle.dev_core.specs.declared.driver.LogEntry.{LogEntry}
-use Rattle.sched_core.specs.Logged.{renumbered}
-use Rattle.sched_modes.specs.Crew.{Places, lengths, of_size, one_at, only_for, share, size_worker, told, total}
+use Rattle.sched_modes.specs.Crew.{Places, of_size, only_for, share, size_worker, told, total}
 
 joined : {X : Type 0} (b : Bool) (x : X) (xs ys zs : List X) → zs ≡ xs ++ ys → cond b (x ∷ zs) zs ≡ cond b (x ∷ xs) xs ++ ys
 joined true x xs ys zs e = ap (λ l. x ∷ l) e

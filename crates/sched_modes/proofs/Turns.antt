@@ -1,5 +1,5 @@
 -- A burst by round-robin.
-use Rattle.std.proofs.Common.{◌≡◌, ℕ, ◌<◌, ◌≤◌, ◌+◌, List, length, get_or, map, take, min, Option, None, Some, option_map, refl, ap, ◌∙◌, sym, subst, arith}
+use Rattle.std.proofs.Common.{◌≡◌, ℕ, ◌<◌, ◌≤◌, List, length, get_or, map, take, min, Option, None, Some, option_map, refl, ap, ◌∙◌, sym, subst, arith}
 use Rattle.std.proofs.lemmas.List.{length-map}
 use Rattle.crypto_model.specs.Counts.{Rose}
 use Rattle.crypto_op.specs.declared.op.Op.{Op}
@@ -8,7 +8,7 @@ use Rattle.dev_core.specs.Burst.{front_log, offered}
 use Rattle.dev_core.specs.declared.driver.Driver.{Ghosts}
 use Rattle.dev_core.specs.declared.driver.LogEntry.{LogEntry}
 use Rattle.sched_modes.specs.Admits.{round_admits}
-use Rattle.sched_modes.specs.Crew.{Crew, DealsOut, Grew, IsCause, Places, RoundOffers, account, free, lengths, nobody, only_for, stalls_of, told, total, turned, worker}
+use Rattle.sched_modes.specs.Crew.{Crew, DealsOut, Grew, IsCause, Places, RoundOffers, account, free, lengths, only_for, stalls_of, told, total, turned, worker}
 use Rattle.sched_modes.specs.Workers.{Serves}
 use Rattle.sched_modes.proofs.Bursts.{free_le, length_front_log, length_told, take_front_log, total_only}
 use Rattle.sched_modes.proofs.Crews.{count_workers, crew_stalls, deals_out, of_worker}

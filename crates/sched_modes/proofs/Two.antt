@@ -1,5 +1,5 @@
 -- Two offers of one burst, one behind the other.
-use Rattle.std.proofs.Common.{◌≡◌, ℕ, zero, suc, ◌+◌, ◌-◌, ◌%◌, ◌^◌, ◌<◌, ◌≤◌, min, List, [], ◌∷◌, ◌++◌, length, map, take, drop, Option, None, Some, refl, ap, ◌∙◌, sym, arith, take-add}
+use Rattle.std.proofs.Common.{◌≡◌, ℕ, zero, suc, ◌+◌, ◌-◌, ◌≤◌, List, [], ◌∷◌, ◌++◌, length, map, take, drop, Option, None, Some, refl, ap, ◌∙◌, sym, arith, take-add}
 use Rattle.std.specs.List.{All}
 use Rattle.std.specs.List.Sorted.{IsPermutation}
 use Rattle.std.proofs.lemmas.List.{append_assoc, map-append, drop-drop, length-drop, length-map, length-take-le}
@@ -9,7 +9,6 @@ use Rattle.crypto_op.specs.declared.op.Op.{Op}
 use Rattle.crypto_op.specs.Op.{entry_of}
 use Rattle.crypto_op.specs.Burst.{Burst}
 use Rattle.dev_core.specs.Burst.{front, front_log, log_entry, offered, rest_of}
-use Rattle.dev_core.specs.declared.driver.LogEntry.{LogEntry}
 use Rattle.sched_core.specs.Logged.{renumbered}
 use Rattle.sched_core.proofs.Renumbered.{renumbered-append, renumbered-mod}
 use Rattle.sched_modes.specs.Crew.{Grew, Places, free, told}

@@ -1,6 +1,6 @@
 -- How many operations a scheduler accepts if none of its workers stalls, where they tell their rooms.
 use Rattle.std.specs.Prelude.{ℕ, zero, suc, ◌+◌, ◌-◌, min, nat_lt, List, [], ◌∷◌, length, take, Option, None, Some, option_map, if◌then◌else◌}
-use Rattle.sched_modes.specs.Crew.{Crew, worker, free, one_at, share, size_worker}
+use Rattle.sched_modes.specs.Crew.{Crew, worker, free, one_at, size_worker}
 
 -- round-robin: as many as the worker whose turn it is has room for
 abbrev pub round_admits : Crew → List ℕ → Option ℕ

@@ -1,5 +1,5 @@
 -- What a call of a scheduler does with its workers, who are seen as plain data.
-use Rattle.std.specs.Prelude.{◌≡◌, ℕ, zero, suc, ◌+◌, ◌-◌, ◌%◌, ◌^◌, ◌<◌, ◌≤◌, ◌==◌, min, Bool, List, [], ◌∷◌, ◌++◌, length, map, take, drop, nat_lt, Option, None, Some, option_map, slice_get, slice_index_or, if◌then◌else◌}
+use Rattle.std.specs.Prelude.{◌≡◌, ℕ, zero, suc, ◌+◌, ◌-◌, ◌%◌, ◌^◌, ◌<◌, ◌≤◌, ◌==◌, min, List, [], ◌∷◌, ◌++◌, length, map, take, drop, nat_lt, Option, None, Some, option_map, slice_get, slice_index_or, if◌then◌else◌}
 use Rattle.std.specs.List.{filter, sum_by}
 use Rattle.crypto_model.specs.Counts.{capped, Rose}
 use Rattle.dev_core.specs.declared.driver.LogEntry.{LogEntry}

@@ -1,5 +1,5 @@
 -- What burst calls keep, over several calls.
-use Rattle.std.specs.Prelude.{◌≡◌, ℕ, zero, suc, ◌+◌, ◌≤◌, List, [], ◌++◌, length, drop, Option, None, Some, option_map, slice_index_or}
+use Rattle.std.specs.Prelude.{◌≡◌, ℕ, zero, suc, ◌+◌, List, [], ◌++◌, length, Option, None, Some, option_map, slice_index_or}
 use Rattle.std.proofs.Common.{refl, ap, ◌∙◌, sym, subst, arith, length-append}
 use Rattle.std.proofs.lemmas.List.{append-nil, append_assoc}
 use Rattle.dev_core.specs.declared.driver.Driver.{Ghosts}
@@ -66,9 +66,10 @@ pub total_none : (w : ℕ) → total w (λ k. 0) ≡ 0
 total_none zero = refl
 total_none (suc w) = let r = total_none w in omega (arith, r)
 
-pub total_joined : (w : ℕ) (f g : ℕ → List LogEntry) → total w (λ k. length (f k ++ g k)) ≡ total w (λ k. length (f k)) + total w (λ k. length (g k))
-total_joined zero f g = refl
-total_joined (suc w) f g = let r = total_joined w f g in omega (arith, r, length-append (f w) (g w))
+pub total_joined : (size : List LogEntry → ℕ) → ((xs ys : List LogEntry) → size (xs ++ ys) ≡ size xs + size ys) → (w : ℕ) (f g : ℕ → List LogEntry)
+    → total w (λ k. size (f k ++ g k)) ≡ total w (λ k. size (f k)) + total w (λ k. size (g k))
+total_joined size joined zero f g = refl
+total_joined size joined (suc w) f g = let r = total_joined size joined w f g in omega (arith, r, joined (f w) (g w))
 
 pub follows_same : {C D : Type 0} {m : Ghosts D C} → ((a : D) → m.follows a a) → (p : Pool C D m) → Follows p p
 follows_same same p = record { parts = λ k. []; went = went_same same p; enqueued = (let r = total_none p.workers in omega (arith, r)) }
@@ -79,7 +80,7 @@ follows_two on p q r x y = record {
   parts = λ k. x.parts k ++ y.parts k;
   went = went_two on x.parts y.parts p q r x.went y.went;
   enqueued =
-      (let a = total_joined p.workers x.parts y.parts in
+      (let a = total_joined length length-append p.workers x.parts y.parts in
       let b : total q.workers (λ k. length (y.parts k)) ≡ total p.workers (λ k. length (y.parts k)) = ap (λ (w : ℕ). total w (λ k. length (y.parts k))) x.went.workers in
       omega (arith, a, b, x.enqueued, y.enqueued));
 }

@@ -5,3 +5,5 @@ pub mod Pool
 pub mod Laws
 pub mod Sizing
 pub mod Running
+pub mod Assign
+pub mod Dealing

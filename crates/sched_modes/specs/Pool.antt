@@ -1,5 +1,5 @@
 -- A pool of workers.
-use Rattle.std.specs.Prelude.{◌≡◌, ℕ, ◌+◌, Bool, is_some, List, [], map, length, take, drop}
+use Rattle.std.specs.Prelude.{◌≡◌, ℕ, ◌+◌, is_some, List, map, length, take}
 use Rattle.std.specs.Arc.{arc_value}
 use Rattle.crypto_model.specs.Counts.{capped}
 use Rattle.crypto_op.specs.Op.{Entry}

@@ -1,18 +1,16 @@
 -- A scheduler that runs, in whichever mode.
 use Rattle.std.specs.Prelude.{◌≡◌, ◌<◌, ℕ, List, [], Option, None, Some, Bool, if◌then◌else◌, slice_index_or}
-use Rattle.std.specs.Arc.{arc_value}
-use Rattle.crypto_model.specs.Process.{Transform}
 use Rattle.crypto_op.specs.Op.{Entry}
 use Rattle.dev_core.specs.declared.driver.Driver.{Ghosts}
 use Rattle.dev_core.specs.declared.driver.LogEntry.{LogEntry}
-use Rattle.dev_core.specs.declared.stats.Stats.{Stats}
 use Rattle.dev_core.specs.Stats.{no_stats}
 use Rattle.sched_core.specs.declared.mode.Mode.{Mode}
 use Rattle.sched_core.specs.declared.mode.Mode.TheVariants.{RoundRobin, PacketSize, FailOver, MultiCore}
 use Rattle.sched_core.specs.Stopped.{Stopped}
 use Rattle.sched_modes.specs.Admits.{fail_admits, round_admits, size_admits}
-use Rattle.sched_modes.specs.Crew.{Crew, FailOffers, Places, RoundOffers, SizeOffers}
-use Rattle.sched_modes.specs.Pool.{crew, held_in, pending_in, stopped}
+use Rattle.dev_core.specs.Calls.{Call}
+use Rattle.sched_modes.specs.Crew.{Crew, Does, FailOffers, Places, RoundOffers, SizeOffers}
+use Rattle.sched_modes.specs.Pool.{Follows, crew, held_in, pending_in, stopped}
 use Rattle.sched_modes.specs.Workers.{places}
 use Rattle.sched_modes.specs.declared.pool.Pool.{Pool}
 use Rattle.sched_modes.specs.declared.running.Running.{Running}
@@ -61,6 +59,12 @@ offers_by RoundRobin threshold = RoundOffers
 offers_by PacketSize threshold = SizeOffers threshold
 offers_by FailOver threshold = FailOffers
 offers_by MultiCore threshold = λ old ops n new. ⊥
+
+-- What a burst call does: the scheduler goes on in its mode, and its crew does what the mode says.
+pub record DoesCall {C D : Type 0} {m : Ghosts D C} (old : Running C D m) (call : Call) (new : Running C D m) : Type 0 where
+  pub mode : mode_of new ≡ mode_of old
+  pub follows : Follows (pool_of old) (pool_of new)
+  pub crew : Does (offers_by (mode_of old) (pool_of old).threshold) (crew_of old) call (crew_of new)
 
 -- the first w hold nothing
 abbrev pub AreIdle : {C D : Type 0} → Ghosts D C → ℕ → List D → Type 0

@@ -10,10 +10,9 @@ use Rattle.dev_core.specs.declared.driver.Driver.{Ghosts}
 use Rattle.dev_core.specs.declared.driver.LogEntry.{LogEntry}
 use Rattle.sched_core.specs.declared.ring.Front.TheVariants as Front
 use Rattle.sched_core.specs.declared.ring.Slot.{Slot}
-use Rattle.sched_core.specs.declared.ring.Slot.TheVariants as Slot
 use Rattle.sched_core.specs.Pending.{pending_of, IsSound, RingDone, SlotDone}
 use Rattle.sched_core.specs.Ring.{Ring, front_of, number}
-use Rattle.sched_modes.specs.Crew.{Account, IsCause, Places, Took, account}
+use Rattle.sched_modes.specs.Crew.{IsCause, Places, Took, account}
 use Rattle.sched_modes.specs.declared.pull.Stop.{Stop}
 use Rattle.sched_modes.specs.declared.pull.Stop.TheVariants.{Max, Empty, NotYet}
 

@@ -108,10 +108,9 @@ impl<C: Drop, D: Driver<C>> Driver<C> for Running<C, D> {
     ghost use Rattle.std.specs.Arc.{arc_value};
     ghost use Rattle.std.proofs.Common.{refl, ◌∙◌};
     ghost use Rattle.sched_core.specs.Pending.{InOrder};
-    ghost use Rattle.sched_modes.specs.Crew.{Does};
     ghost use Rattle.sched_modes.specs.Laws.{follows_same, follows_two, order_kept};
     ghost use Rattle.sched_modes.specs.Pool.{Follows, stalls_in};
-    ghost use Rattle.sched_modes.specs.Running.{admits_by, crew_of, mode_of, offers_by, pending, pool_of};
+    ghost use Rattle.sched_modes.specs.Running.{DoesCall, admits_by, crew_of, mode_of, pending, pool_of};
 
     ghost held = { λ r. pending r };
 
@@ -131,7 +130,7 @@ impl<C: Drop, D: Driver<C>> Driver<C> for Running<C, D> {
 
     ghost follows = { λ r s. (mode_of s ≡ mode_of r) × Follows (pool_of r) (pool_of s) };
 
-    ghost does = { λ r c s. (mode_of s ≡ mode_of r) × Does (offers_by (mode_of r) (pool_of r).threshold) (crew_of r) c (crew_of s) };
+    ghost does = { λ r c s. DoesCall r c s };
 
     ghost room_admits = { λ r n ls e. Prim.cc };
 

@@ -1,8 +1,7 @@
-use Rattle.std.proofs.Common.{refl, ◌≡◌, ◌<◌, ◌≤◌, ◌+◌, ◌-◌, ◌++◌, ◌^◌, min, length, take, map, ap, ◌∙◌, sym, arith, Some, length-append}
-use Rattle.std.specs.Prelude.{slice_index_or, slice_set}
+use Rattle.std.proofs.Common.{◌≡◌, ◌<◌, ◌≤◌, ◌+◌, ◌++◌, ◌^◌, min, length, take, map, ap, ◌∙◌, sym, arith, Some, length-append}
 use Rattle.std.specs.List.{flat_map, All}
 use Rattle.std.proofs.Math.ListN.{set}
-use Rattle.std.proofs.lemmas.List.{length-take, length-map, get_or-set_same, get_or-set_other, drop-set-lt, length-set}
+use Rattle.std.proofs.lemmas.List.{length-take, length-map, get_or-set_same, drop-set-lt, length-set}
 use Rattle.std.proofs.lemmas.List.Elements.{All-append}
 use Rattle.std.proofs.lemmas.List.Sorted.{IsPermutation-refl}
 use Rattle.crypto_op.specs.Op.{data_len_of, entry_of}

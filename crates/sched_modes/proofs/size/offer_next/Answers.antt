@@ -1,4 +1,4 @@
-use Rattle.std.proofs.Common.{◌≡◌, ◌<◌, ◌≤◌, ℕ, Some, length, ap, ◌∙◌, sym, subst, arith}
+use Rattle.std.proofs.Common.{◌≡◌, ℕ, Some, ap, ◌∙◌, sym, subst, arith}
 use Rattle.std.specs.Prelude.{slice_index_or}
 use Rattle.crypto_model.specs.Counts.{Rose}
 use Rattle.crypto_op.specs.declared.op.Op.{Op}

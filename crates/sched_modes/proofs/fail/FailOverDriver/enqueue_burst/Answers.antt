@@ -1,4 +1,4 @@
-use Rattle.std.proofs.Common.{◌≡◌, ◌<◌, ◌≤◌, ◌+◌, ◌-◌, ◌++◌, length, ap, ◌∙◌, subst, arith, ℕ, min}
+use Rattle.std.proofs.Common.{◌≡◌, ◌≤◌, ◌+◌, ◌-◌, ◌++◌, length, ap, ◌∙◌, subst, arith, ℕ}
 use Rattle.dev_core.specs.Burst.{front, front_log, lens, offered}
 use Rattle.dev_core.specs.declared.stats.Stats.{Stats}
 use Rattle.crypto_op.specs.Op.{IsFresh}
@@ -9,7 +9,7 @@ use Rattle.sched_modes.specs.Workers.{Serves, places}
 use Rattle.sched_modes.proofs.Bursts.{free_le, length_front_log, length_told, lens_is}
 use Rattle.sched_modes.proofs.Crews.{stalls_rise}
 use Rattle.sched_modes.proofs.Failing.{fail_admitted, fail_offers, fail_stalls, sum_two}
-use Rattle.sched_modes.proofs.Two.{fresh_rest, front_two, order_two, pending_two, rest_two}
+use Rattle.sched_modes.proofs.Two.{fresh_rest, front_two, order_two, pending_two}
 use Rattle.sched_modes.proofs.fail.FailOverDriver.enqueue_burst.Goals as goal
 
 pub returns-clause-does : goal.returns-clause-does

@@ -1,4 +1,3 @@
-use Rattle.std.proofs.Common.{◌≡◌}
 use Rattle.std.specs.Arc.{arc_value}
 use Rattle.sched_modes.specs.Workers.{together}
 use Rattle.sched_modes.proofs.Ahead.{hold_none, new_done, new_fits, new_pending, new_sound}

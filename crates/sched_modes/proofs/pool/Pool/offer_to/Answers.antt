@@ -1,4 +1,4 @@
-use Rattle.std.proofs.Common.{◌≡◌, ◌≤◌, ◌∙◌, arith}
+use Rattle.std.proofs.Common.{◌∙◌, arith}
 use Rattle.std.specs.Arc.{arc_value}
 use Rattle.sched_modes.proofs.Ahead.{fits_kept}
 use Rattle.sched_modes.proofs.pool.Pool.offer_to.Goals as goal

@@ -1,4 +1,4 @@
-use Rattle.std.proofs.Common.{◌≡◌, length, arith, Some}
+use Rattle.std.proofs.Common.{arith, Some}
 use Rattle.sched_core.specs.Pending.{IsSound}
 use Rattle.sched_modes.specs.Pool.{held_in}
 use Rattle.sched_modes.proofs.Ahead.{length_pending}

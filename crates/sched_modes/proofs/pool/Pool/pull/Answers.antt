@@ -1,4 +1,4 @@
-use Rattle.std.proofs.Common.{◌≡◌, ◌<◌, ◌≤◌, ◌+◌, [], ◌++◌, length, map, take, ap, ◌∙◌, sym, subst, arith, refl, min, ℕ}
+use Rattle.std.proofs.Common.{◌≡◌, ◌<◌, ◌≤◌, [], length, map, take, ap, subst, arith, refl, min, ℕ}
 use Rattle.std.proofs.lemmas.List.{length-drop, length-map}
 use Rattle.crypto_op.specs.Op.{entry_of}
 use Rattle.dev_core.specs.Burst.{added, room_of}

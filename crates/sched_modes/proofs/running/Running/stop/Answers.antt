@@ -1,7 +1,7 @@
-use Rattle.std.proofs.Common.{◌≡◌, ◌<◌, ◌≤◌, [], ℕ, length, get_or, ap, subst, sym, arith}
+use Rattle.std.proofs.Common.{subst, sym, arith}
 use Rattle.std.proofs.lemmas.List.{nil_from_length}
 use Rattle.sched_core.specs.Stopped.{Stopped}
-use Rattle.sched_modes.specs.Running.{AreIdle, pending, pool_of, stopped_of}
+use Rattle.sched_modes.specs.Running.{AreIdle, pending, pool_of}
 use Rattle.sched_modes.proofs.Idle.{all_idle}
 use Rattle.sched_modes.proofs.running.Running.stop.Goals as goal
 

@@ -1,4 +1,4 @@
-use Rattle.std.proofs.Common.{◌≡◌, ◌<◌, ◌≤◌, ◌+◌, length, ap, ◌∙◌, arith}
+use Rattle.std.proofs.Common.{◌≡◌, ◌≤◌, length, ap, ◌∙◌, arith}
 use Rattle.dev_core.specs.Burst.{front_log, lens, offered}
 use Rattle.dev_core.specs.declared.stats.Stats.{Stats}
 use Rattle.sched_modes.specs.Crew.{of_size, told, total}

@@ -1,5 +1,5 @@
-"""Runs `crypt` under sessions of every transform and key length, outward and back, and compares what it
-writes and reports with checks/reference.py. The program is ./capcrypt, or that which the environment
+"""Runs `crypt` under sessions of every transform and key length, outward and back, and by turns through schedulers in
+each mode, and compares what it writes and reports with checks/reference.py. The program is ./capcrypt, or that which the environment
 variable CAPCRYPT names. Ends with 1 where something differs, and with 3 where the Python package
 `cryptography` is missing."""
 import itertools
@@ -17,7 +17,16 @@ except ImportError:
 
 TOP = pathlib.Path(__file__).resolve().parent.parent
 PROGRAM = os.environ.get("CAPCRYPT", "./capcrypt")
-CRYPT = [PROGRAM, "crypt", "--vdev", "mode=round-robin,worker=plain", "--sessions"]
+PLAIN = "worker=plain,worker=plain"
+SCHEDULERS = [
+    "mode=round-robin,worker=plain",
+    f"mode=packet-size-distr,{PLAIN},ordering=enable",
+    f"mode=round-robin,{PLAIN},worker=lane",
+    f"ordering=enable,mode=fail-over,{PLAIN}",
+    f"mode=round-robin,ordering=enable,{PLAIN},{PLAIN},{PLAIN},{PLAIN}",
+    f"mode_param=threshold:64,mode=packet-size-distr,{PLAIN}",
+    f"mode=fail-over,{PLAIN},ordering=disable",
+]
 HASHES = {"sha224": 28, "sha256": 32, "sha384": 48, "sha512": 64}
 KEYS = [bytes(range(7, 7 + size)).hex() for size in (16, 24, 32)]
 SALTS = {"cbc": "a0a1a2a3a4a5a6a7", "ctr": "b0b1b2b3", "gcm": "c0c1c2c3"}
@@ -27,7 +36,8 @@ BACK = {"encrypt": "decrypt", "generate": "verify"}
 # Lengths that mixed.pcap hasn't: shorter than any skip but 0, and such that a digest, or a block of the data
 # behind a skip of 14, passes the end of a segment of 2,048 bytes.
 LARGE = [0, 1, 2046, 2062, 2064]
-BURSTS = [["--burst", "1"], ["--burst", "7"], ["--burst", "32"], ["--burst", "256"], []]
+# The burst sizes, of which None is left out of the words.
+BURSTS = [1, 7, 32, 256, None]
 
 
 def cipher(mode, key):
@@ -80,6 +90,7 @@ class Runs:
     def __init__(self, folder):
         self.file = pathlib.Path(folder) / "sessions"
         self.bursts = itertools.cycle(BURSTS)
+        self.schedulers = itertools.cycle(SCHEDULERS)
         self.differences = []
 
     def expect(self, holds, text, why):
@@ -88,15 +99,16 @@ class Runs:
 
     def compare(self, text, capture):
         """Runs the program; gives the capture that is wanted, and the numbers of packets by outcome."""
-        made, counts, report = reference.crypt(text, capture)
+        vdev, burst = next(self.schedulers), next(self.bursts)
+        made, counts, report = reference.crypt(text, capture, vdev, burst or 32)
         self.file.write_text(text)
-        burst = next(self.bursts)
-        words = [*CRYPT, str(self.file), *burst]
+        options = [] if burst is None else ["--burst", str(burst)]
+        words = [PROGRAM, "crypt", "--vdev", vdev, "--sessions", str(self.file), *options]
         ran = subprocess.run(words, input=capture, capture_output=True, cwd=TOP, timeout=60)
         got = ran.stdout, ran.stderr
         if got != (made, report) or ran.returncode:
             why = why_not((made, report), got)
-            self.expect(False, text, f"{' '.join(burst)} status {ran.returncode}: {why}")
+            self.expect(False, text, f"{vdev} {' '.join(options)} status {ran.returncode}: {why}")
         return made, counts
 
     def there_and_back(self, outward, inward, capture):

@@ -4,6 +4,7 @@ import hmac
 import struct
 from collections import Counter
 
+import dealing
 from cryptography.exceptions import InvalidTag
 from cryptography.hazmat.primitives.ciphers import Cipher
 from cryptography.hazmat.primitives.ciphers.algorithms import AES
@@ -78,9 +79,20 @@ class Session:
                 return None
         return packet[:skip] + self.crypted(n, packet[skip:]) if self.mode else packet
 
+    def size(self, skip, packet):
+        """How many bytes stand behind the skip, but for a digest or tag that is taken off."""
+        return len(packet) - skip - (self.tag if self.inward else 0)
+
+    def data_length(self, skip, packet):
+        """The length of what the cipher works on or, where that is nothing, of what the code covers."""
+        size = self.size(skip, packet)
+        if self.mode and size:
+            return size
+        return skip + size if self.hash else 0
+
     def worked(self, n, skip, packet):
         """What becomes of packet n, and its new bytes."""
-        size = len(packet) - skip - (self.tag if self.inward else 0)
+        size = self.size(skip, packet)
         if size < 0:
             return "short", packet
         if self.mode == "cbc" and size % 16:
@@ -106,13 +118,14 @@ class Plan:
                 self.otherwise = rest.split()
 
     def answer(self, n, packet):
-        """What becomes of packet n, and its new bytes."""
+        """What becomes of packet n, its new bytes, and the data length of its operation, if it has one."""
         held = (choice for offset, data, choice in self.rules if packet[offset : offset + len(data)] == data)
         choice = next(held, self.otherwise)
         if choice == ["pass"]:
-            return "passed", packet
-        name, skip = choice
-        return self.sessions[name].worked(n, int(skip), packet)
+            return "passed", packet, None
+        session, skip = self.sessions[choice[0]], int(choice[1])
+        outcome, made = session.worked(n, skip, packet)
+        return outcome, made, None if outcome == "short" else session.data_length(skip, packet)
 
 
 def order_of(capture):
@@ -145,14 +158,18 @@ def raised(capture):
     return capture[:16] + struct.pack(order + "I", max(snaplen, 262208)) + capture[20:24]
 
 
-def crypt(text, capture):
+def crypt(text, capture, vdev="mode=round-robin,worker=plain", burst=32):
     """The written capture, how many packets ended how, and the report."""
-    plan, counts, made = Plan(text), Counter(), []
+    plan, counts, made, lengths = Plan(text), Counter(), [], []
     for n, (seconds, fraction, original, packet) in enumerate(records_of(capture)):
-        outcome, answer = plan.answer(n, packet)
+        outcome, answer, length = plan.answer(n, packet)
         counts[outcome] += 1
         made.append((seconds, fraction, max(0, original + len(answer) - len(packet)), answer))
-    operations = counts["success"] + counts["auth_failed"] + counts["invalid_args"]
+        if length is not None:
+            lengths.append(length)
     told = "".join(f" {outcome}={counts[outcome]}" for outcome in OUTCOMES)
-    report = f"packets={len(made)}{told}\ndevice 0 operations={operations}\nstatus=0\n"
+    lines = [f"packets={len(made)}{told}"]
+    for place, numbers in enumerate(dealing.lists_of(vdev, burst, lengths)):
+        lines.append(f"device {place} operations={len(numbers)}")
+    report = "".join(f"{line}\n" for line in [*lines, "status=0"])
     return capture_of(raised(capture), made), counts, report.encode()

@@ -1,4 +1,4 @@
-"""Makes the values again that the crates' tests of HMAC and GCM, and the programs that time the ciphers,
+"""Makes the values again that the crates' tests of HMAC, GCM and schedulers, and the programs that time the ciphers,
 expect: by Python's hmac, and by the package `cryptography`. Ends with 1 where one of them isn't in its file,
 and with 3 where the package is missing and all others were found."""
 import hashlib
@@ -6,6 +6,8 @@ import hmac
 import pathlib
 import re
 import sys
+
+import dealing
 
 CRATES = pathlib.Path(__file__).resolve().parent.parent / "crates"
 missing = []
@@ -81,7 +83,22 @@ def timed(aesgcm, cipher, aes, ctr):
     expect("gcm_bench/stdout", str(total), "check sum")
 
 
+def dealt():
+    """The table of which device gets which of 65 operations: scheduler texts, burst sizes and lists."""
+    name = "capcrypt/src/tests/deal.rt"
+    lengths = [97 * n % 241 + 20 for n in range(65)]
+    rows = re.findall(r'"(mode=[^"]*)",\s*"(\d+)",\s*\[(.*?)\],\s*\),', text_of(name), re.S)
+    if len(rows) != 5:
+        missing.append(f"{name}: {len(rows)} rows of lists")
+    for vdev, burst, told in rows:
+        made = dealing.lists_of(vdev, int(burst), lengths)
+        lists = [[int(number) for number in re.findall(r"\d+", part)] for part in re.findall(r"&\[(.*?)\]", told, re.S)]
+        if lists != made + [[]] * (4 - len(made)):
+            missing.append(f"{name}: lists of {vdev}")
+
+
 codes()
+dealt()
 skipped = False
 try:
     from cryptography.hazmat.primitives.ciphers import Cipher

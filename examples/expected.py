@@ -65,12 +65,17 @@ USAGE = [
     ("salt-not-hex", f"quick {KEY} 0x000030"),
 ]
 
-CRYPT = "crypt --vdev mode=round-robin,worker=plain --sessions"
+ONE = "mode=round-robin,worker=plain"
+TWO = "worker=plain,worker=plain"
+CRYPT = f"crypt --vdev {ONE} --sessions"
 
-# The case's name, which is its session file's too, its capture, what is written and further words.
+# The case's name, its session file, whether that seals, the scheduler text, and the burst size, if the words give one.
 GATEWAY = [
-    ("gateway", "mixed.pcap", "expected/gateway.pcap", ""),
-    ("gateway-inward", "expected/gateway.pcap", "mixed.pcap", " --burst 7"),
+    ("gateway", "gateway", True, ONE, None),
+    ("gateway-inward", "gateway-inward", False, ONE, 7),
+    ("gateway-in-turn", "gateway", True, f"mode=round-robin,{TWO},ordering=enable", 32),
+    ("gateway-by-size", "gateway", True, f"mode=packet-size-distr,{TWO},mode_param=threshold:256", 32),
+    ("gateway-fail-over", "gateway-inward", False, f"mode=fail-over,{TWO},ordering=enable", 256),
 ]
 
 # Calls of crypt that end before the capture is read, and their reports.
@@ -81,7 +86,17 @@ REFUSED = [
     (
         "other-vdev",
         "crypt --vdev mode=round-robin --sessions examples/gateway.sessions",
-        "status=2 vdev at=0",
+        "status=2 vdev at=16",
+    ),
+    (
+        "unknown-field",
+        "crypt --vdev mode=round-robin,worker=plain,threshold=5 --sessions examples/gateway.sessions",
+        "status=2 vdev at=30",
+    ),
+    (
+        "multi-core",
+        "crypt --vdev mode=multi-core,worker=plain --sessions examples/gateway.sessions",
+        "status=2 usage",
     ),
     ("burst-zero", f"{CRYPT} examples/gateway.sessions --burst 0", "status=2 usage"),
 ]
@@ -119,16 +134,14 @@ def write(name, data):
 
 def gateway():
     """What is sealed of mixed.pcap, and the reports. Opened, it has to be that capture again."""
-    capture = read(FOLDER, "mixed.pcap")
-    made = capture
-    for name, *_ in GATEWAY:
-        text = read(HERE, f"{name}.sessions").decode()
-        made, _, told = reference.crypt(text, made)
+    captures = {True: read(FOLDER, "mixed.pcap")}
+    for name, sessions, seals, vdev, burst in GATEWAY:
+        text = read(HERE, f"{sessions}.sessions").decode()
+        made, _, told = reference.crypt(text, captures[seals], vdev, burst or 32)
         write(f"expected/{name}.report", told)
-        if name == "gateway":
-            write("expected/gateway.pcap", made)
-    if made != capture:
-        sys.exit("the sealed capture isn't taken back")
+        if made != captures.setdefault(not seals, made):
+            sys.exit("the sealed capture isn't taken back, or isn't sealed as before")
+    write("expected/gateway.pcap", captures[False])
 
 
 def report(name, packets, last):
@@ -160,8 +173,10 @@ for name, source, key, salt, packets, last in CASES:
 for name, words in USAGE:
     report(name, None, "status=2 usage")
     table.append(f"{name} vector.pcap 2 none {words}".rstrip())
-for name, source, output, words in GATEWAY:
-    table.append(f"{name} {source} 0 {output} {CRYPT} examples/{name}.sessions{words}")
+for name, sessions, seals, vdev, burst in GATEWAY:
+    files = "mixed.pcap 0 expected/gateway.pcap" if seals else "expected/gateway.pcap 0 mixed.pcap"
+    words = f"crypt --vdev {vdev} --sessions examples/{sessions}.sessions"
+    table.append(f"{name} {files} {words}" + (f" --burst {burst}" if burst else ""))
 for name, words, last in REFUSED:
     report(name, None, last)
     table.append(f"{name} vector.pcap {last[len('status=')]} none {words}")

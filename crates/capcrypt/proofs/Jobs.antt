@@ -1,19 +1,18 @@
 -- How each way out of a run meets what is said of the run.
-use Rattle.std.proofs.Common.{◌≡◌, ◌⊎◌, inl, inr, ℕ, zero, suc, Bool, true, false, ◌+◌, ◌<◌, ◌≤◌, List, [], ◌∷◌, ◌++◌, length, get_or, set, map, take, drop, refl, ◌∙◌, ap, sym, subst, arith, append_assoc, length-append, length-take, length-drop}
-use Rattle.std.specs.Prelude.{Option, None, Some, option_map}
+use Rattle.std.proofs.Common.{◌≡◌, ◌⊎◌, inl, inr, ℕ, zero, suc, Bool, true, false, ◌+◌, ◌<◌, ◌≤◌, List, [], ◌∷◌, ◌++◌, length, take, drop, refl, ◌∙◌, ap, sym, subst, arith, append_assoc, length-append, length-take, length-drop}
+use Rattle.std.specs.Prelude.{Ok, Err}
 use Rattle.std.proofs.lemmas.List.{append-nil, take_all, take-append-le, take-append-drop}
 use Rattle.std.proofs.lemmas.List.Concat.{flat_map-append}
 use Rattle.std.proofs.Math.Seq.{take-append-add, take-append_seam}
 use Rattle.std.specs.List.{flat_map}
-use Rattle.crypto_model.specs.Counts.{capped}
 use Rattle.dev_core.specs.declared.driver.LogEntry.{LogEntry}
 use Rattle.capture_io.specs.declared.header.Header.{Header}
 use Rattle.capture_io.specs.declared.header.ReadStop.{ReadStop}
 use Rattle.capture_io.specs.declared.header.ReadStop.TheVariants.{Fault, BadCapture, OutOfMemory}
-use Rattle.capture_io.specs.Capture.{Rec, Rest, Reading, NoHeader, Holds, header_bytes, spelled}
+use Rattle.capture_io.specs.declared.header.CaptureCause.{CaptureCause}
+use Rattle.capture_io.specs.Capture.{Rec, Rest, Reading, IsReading, NoHeader, Holds, Records, StopsHeader, first_place, header_at, header_bytes, spelled}
 use Rattle.capture_io.specs.Pieces.{AppendsPart}
 use Rattle.session_file.specs.declared.plan.Plan.{Plan}
-use Rattle.packet_plan.specs.Asked.{sessions_of}
 use Rattle.packet_plan.specs.Answered.{Answered, answered_from}
 use Rattle.packet_flow.proofs.Answers.{length-answered_from}
 use Rattle.packet_flow.specs.declared.flow.FlowEnd.{FlowEnd}
@@ -25,10 +24,12 @@ use Rattle.packet_flow.specs.Reads.{ReadsAs}
 use Rattle.capcrypt.specs.declared.ending.Outcome.{Outcome}
 use Rattle.capcrypt.specs.declared.ending.Ending.{Ending}
 use Rattle.capcrypt.specs.declared.ending.Ending.TheVariants.{Done, Memory, Usage, Vdev, Capture, Sessions, ReadFault, WriteFault, Stalled, TooLarge}
-use Rattle.capcrypt.specs.Devices.{DeviceNow, workers, at}
-use Rattle.capcrypt.specs.Start.{Settings, Start, Begins, Stops}
+use Rattle.capcrypt.specs.Dealing.{Dealing, workers_of}
+use Rattle.capcrypt.specs.Devices.{DeviceNow, at, taken_together}
+use Rattle.capcrypt.specs.Served.{HaveServed, IsReady}
+use Rattle.capcrypt.specs.Start.{Settings, Start, Begins, Stops, workers_in}
 use Rattle.capcrypt.specs.Written.{raised, ending_at}
-use Rattle.capcrypt.specs.Ran.{Job, IsWritten, IsDecided, IsLate, HasServed, ServesFront, ServesWhole, AppendsRecords, AppendsUpto, flow_ending, stop_ending}
+use Rattle.capcrypt.specs.Ran.{HasWritten, IsUnused, Job, IsWritten, IsDecided, IsLate, Serves, ServesWhole, AppendsRecords, AppendsUpto, flow_ending, stop_ending}
 
 -- no record is empty
 length-spelled : (big : Bool) (x : ℕ) → length (spelled big 4 x) ≡ 4
@@ -222,62 +223,35 @@ module _ (plan : Plan) (rs : List Rec) (rest : Rest) (n : ℕ) (taken : List Log
   ends_at flow.Stalled d w = absurd d
   ends_at flow.OutOfMemory d w = absurd d
 
--- whatever is so of device 0 is so of each used device
-only_first : (P : ℕ → Type 0) → P 0 → (i : ℕ) → i < workers → P i
-only_first P first zero below = first
-only_first P first (suc i) below = absurd (omega (arith, below))
+-- ---- what a run wrote whose plan and header are known
 
-module _ (s : Settings) (h : Header) (rs : List Rec) (rest : Rest) (o : Outcome) (old base new : List ℕ) (before now : List DeviceNow) where
-  abbrev log : Option (List LogEntry)
-  log = (at before 0).log
-
-  abbrev d : DeviceNow
-  d = at now 0
-
-  -- the used device has taken the first k operations
-  pub first_taken : (k : ℕ) → HasServed s.plan (take k (entries_from s.plan 0 rs)) log d → ServesFront (Begins s) (Holds h rs rest) before now
-  first_taken k served = only_first (λ i. (j : ℕ) × HasServed s.plan (take j (entries_from s.plan 0 rs)) (at before i).log (at now i)) (k, served)
-
-  pub all_taken : HasServed s.plan (entries_from s.plan 0 rs) log d → ServesWhole (Begins s) (Holds h rs rest) before now
-  all_taken served = only_first (λ i. HasServed s.plan (entries_from s.plan 0 rs) (at before i).log (at now i)) served
-
-  -- no operation was taken yet
-  pub none_taken : d.depth ≡ 128 → d.sessions ≡ sessions_of s.plan → d.enqueued ≡ 0 → d.log ≡ option_map (λ l. []) log → ServesFront (Begins s) (Holds h rs rest) before now
-  none_taken depth sessions enqueued logged = first_taken 0 (record { depth = depth; sessions = sessions; enqueued = enqueued; log = logged })
-
+module _ (s : Settings) (h : Header) (rs : List Rec) (rest : Rest) (o : Outcome) (old base new : List ℕ) where
   -- the header could not be written
-  pub header_failed : o ≡ record { ending = WriteFault; counts = counts_of []; header = true } → AppendsPart old new (header_bytes (raised h))
-      → ServesFront (Begins s) (Holds h rs rest) before now → Job (Begins s) (Holds h rs rest) o old new ⊥ before now
-  header_failed is part served = rw is (record {
+  pub header_failed : (devices : ℕ) → o ≡ record { ending = WriteFault; counts = counts_of []; header = true; devices = devices } → AppendsPart old new (header_bytes (raised h))
+      → HasWritten (Begins s) (Holds h rs rest) o old new
+  header_failed devices is part = rw is (record {
     n = 0;
     within = omega arith;
     counts = refl;
     written = header_cut s h rs rest old new part;
-    devices = inr served;
-    stalled = λ e. absurd (let no : WriteFault ≡ Stalled = e in cc);
-    decided = λ no. absurd no;
+    whole = λ no. absurd no;
   })
 
   -- memory was wanting before the header was written
-  pub not_set_up : (unused : Type 0) → o ≡ record { ending = Memory; counts = counts_of []; header = true } → new ≡ old → unused
-      → Job (Begins s) (Holds h rs rest) o old new unused before now
-  not_set_up unused is same idle = rw is (record {
+  pub not_set_up : (devices : ℕ) → o ≡ record { ending = Memory; counts = counts_of []; header = true; devices = devices } → new ≡ old
+      → HasWritten (Begins s) (Holds h rs rest) o old new
+  not_set_up devices is same = rw is (record {
     n = 0;
     within = omega arith;
     counts = refl;
     written = nothing_front s h rs rest old new 0 refl same;
-    devices = inl idle;
-    stalled = λ e. absurd (let no : Memory ≡ Stalled = e in cc);
-    decided = λ no. absurd no;
+    whole = λ no. absurd no;
   })
 
   -- the packets flowed, to this end
-  pub flowed : (end : FlowEnd) (taken : List LogEntry) → d.depth ≡ 128 → d.sessions ≡ sessions_of s.plan → base ≡ old ++ header_bytes (raised h)
-      → o.ending ≡ flow_ending end → o.header ≡ true → d.enqueued ≡ capped (length taken) → d.log ≡ option_map (λ l. taken) log
-      → Flowed s.plan h.big rs rest end o.counts base new taken → Job (Begins s) (Holds h rs rest) o old new ⊥ before now
-  flowed end taken depth sessions wrote ending header enqueued logged f =
-      let served : HasServed s.plan taken log d = record { depth = depth; sessions = sessions; enqueued = enqueued; log = logged } in
-      let front = first_taken f.k (subst (λ (l : List LogEntry). HasServed s.plan l log d) f.front served) in
+  pub flowed : (end : FlowEnd) (taken : List LogEntry) → base ≡ old ++ header_bytes (raised h) → o.ending ≡ flow_ending end → o.header ≡ true
+      → Flowed s.plan h.big rs rest end o.counts base new taken → HasWritten (Begins s) (Holds h rs rest) o old new
+  flowed end taken wrote ending header f =
       let all : IsDecided (flow_ending end) → f.n ≡ length rs = λ x. (f.whole (decided_whole s.plan rs rest f.n taken end x)).records in
       record {
         n = f.n;
@@ -285,21 +259,14 @@ module _ (s : Settings) (h : Header) (rs : List Rec) (rest : Rest) (o : Outcome)
         counts = f.counts_are;
         written = subst (λ (x : Ending). IsWritten x (Begins s) (Holds h rs rest) f.n old new) (sym ending)
             (flow_written s h rs rest old new end f.n f.within all (subst (λ (l : List ℕ). IsWrittenBy end h.big (answered_from s.plan 0 rs) f.n l new) wrote f.written));
-        devices = inr front;
-        stalled = λ x. (header, front);
-        decided = λ x.
+        whole = λ x.
             let known : IsDecided (flow_ending end) = subst IsDecided ending x in
             let w = f.whole (decided_whole s.plan rs rest f.n taken end known) in
-            record {
-              ending = ending ∙ ends_at s.plan rs rest f.n taken end known w;
-              records = w.records ∙ sym (length-answered_from s.plan 0 rs);
-              header = header;
-              devices = all_taken (subst (λ (l : List LogEntry). HasServed s.plan l log d) w.taken served);
-            };
+            (ending ∙ ends_at s.plan rs rest f.n taken end known w, w.records ∙ sym (length-answered_from s.plan 0 rs), header);
       }
 
 -- the same run, whose sink could not be flushed
-module _ (s : Settings) (h : Header) (rs : List Rec) (rest : Rest) (o o' : Outcome) (old new : List ℕ) (unused : Type 0) (before now : List DeviceNow) where
+module _ (s : Settings) (h : Header) (rs : List Rec) (rest : Rest) (o o' : Outcome) (old new : List ℕ) where
   abbrev count : ℕ
   count = length (answered_from s.plan 0 rs)
 
@@ -321,66 +288,30 @@ module _ (s : Settings) (h : Header) (rs : List Rec) (rest : Rest) (o o' : Outco
   upto_of (Sessions line kind) n within all written = all_front s h rs rest old new n (all tt) written
   upto_of (TooLarge value) n within all written = all_front s h rs rest old new n (all tt) written
 
-  pub flush_failed : Job (Begins s) (Holds h rs rest) o old new unused before now → o' ≡ record o { ending = WriteFault } → Job (Begins s) (Holds h rs rest) o' old new unused before now
-  flush_failed job is =
+  flush_failed : HasWritten (Begins s) (Holds h rs rest) o old new → o' ≡ record o { ending = WriteFault } → HasWritten (Begins s) (Holds h rs rest) o' old new
+  flush_failed w is =
       let ending : o'.ending ≡ WriteFault = ap (λ (x : Outcome). x.ending) is in
       record {
-        n = job.n;
-        within = job.within;
-        counts = ap (λ (x : Outcome). x.counts) is ∙ job.counts;
-        written = subst (λ (e : Ending). IsWritten e (Begins s) (Holds h rs rest) job.n old new) (sym ending)
-            (upto_of o.ending job.n job.within (λ x. (job.decided x).records) job.written);
-        devices = job.devices;
-        stalled = λ x. absurd (let no : WriteFault ≡ Stalled = sym ending ∙ x in cc);
-        decided = λ x. absurd (subst IsDecided ending x);
+        n = w.n;
+        within = w.within;
+        counts = ap (λ (x : Outcome). x.counts) is ∙ w.counts;
+        written = subst (λ (e : Ending). IsWritten e (Begins s) (Holds h rs rest) w.n old new) (sym ending)
+            (upto_of o.ending w.n w.within (λ x. (w.whole x).1) w.written);
+        whole = λ x. absurd (subst IsDecided ending x);
       }
 
-map_twice : {X : Type 0} (x y : X) (o : Option X) → option_map (λ a. x) (option_map (λ a. y) o) ≡ option_map (λ a. x) o
-map_twice x y None = refl
-map_twice x y (Some a) = refl
+  pub flushed : (R : Type 0) → HasWritten (Begins s) (Holds h rs rest) o old new → (o' ≡ o) ⊎ ((o' ≡ record o { ending = WriteFault }) × R) → HasWritten (Begins s) (Holds h rs rest) o' old new
+  flushed R w (inl same) = subst (λ (x : Outcome). HasWritten (Begins s) (Holds h rs rest) x old new) (sym same) w
+  flushed R w (inr failed) = flush_failed w failed.0
 
--- what the log told before it was emptied
-served_before : (plan : Plan) (taken : List LogEntry) (log emptied : Option (List LogEntry)) (d : DeviceNow) → emptied ≡ option_map (λ l. []) log
-    → HasServed plan taken emptied d → HasServed plan taken log d
-served_before plan taken log emptied d is s = record {
-  depth = s.depth;
-  sessions = s.sessions;
-  enqueued = s.enqueued;
-  log = s.log ∙ ap (option_map (λ l. taken)) is ∙ map_twice taken [] log;
-}
+-- whatever the outcome was before the flush, it decides no more behind one that failed
+pub flushed_decided : (o o' : Outcome) (R : Type 0) → (o' ≡ o) ⊎ ((o' ≡ record o { ending = WriteFault }) × R) → IsDecided o'.ending → IsDecided o.ending
+flushed_decided o o' R (inl same) d = subst (λ (x : Outcome). IsDecided x.ending) same d
+flushed_decided o o' R (inr failed) d = absurd (subst (λ (x : Outcome). IsDecided x.ending) failed.0 d)
 
--- The first of the devices was set up, which emptied its log, and then a run went through it alone.
-module _ (s : Settings) (h : Header) (rs : List Rec) (rest : Rest) (o : Outcome) (old new : List ℕ) (unused : Type 0) (b e d : DeviceNow) (bs ds : List DeviceNow) where
-  pub set_up_first : e.log ≡ option_map (λ l. []) b.log → Job (Begins s) (Holds h rs rest) o old new ⊥ (e ∷ []) (d ∷ [])
-      → Job (Begins s) (Holds h rs rest) o old new unused (b ∷ bs) (d ∷ ds)
-  set_up_first is job =
-      let front : ServesFront (Begins s) (Holds h rs rest) (e ∷ []) (d ∷ []) → ServesFront (Begins s) (Holds h rs rest) (b ∷ bs) (d ∷ ds) = λ each.
-      let one = each 0 (omega arith) in
-      first_taken s h rs rest o old old new (b ∷ bs) (d ∷ ds) one.0 (served_before s.plan (take one.0 (entries_from s.plan 0 rs)) b.log e.log d is one.1) in
-      record {
-        n = job.n;
-        within = job.within;
-        counts = job.counts;
-        written = job.written;
-        devices = elim job.devices [ inl none ↦ absurd none | inr served ↦ inr (front served) ];
-        stalled = λ x. ((job.stalled x).0, front (job.stalled x).1);
-        decided = λ x.
-            let w = job.decided x in
-            record {
-              ending = w.ending;
-              records = w.records;
-              header = w.header;
-              devices = all_taken s h rs rest o old old new (b ∷ bs) (d ∷ ds) (served_before s.plan (entries_from s.plan 0 rs) b.log e.log d is (w.devices 0 (omega arith)));
-            };
-      }
-
--- the same, where the devices stand in a list
-pub set_up_in : {D : Type 0} (f : D → DeviceNow) (s : Settings) (h : Header) (rs : List Rec) (rest : Rest) (o : Outcome) (old new : List ℕ) (xs : List D) (x mid d : D) → 0 < length xs
-    → (f mid).log ≡ option_map (λ l. []) (f (get_or xs 0 x)).log → Job (Begins s) (Holds h rs rest) o old new ⊥ (f mid ∷ []) (f d ∷ [])
-    → Job (Begins s) (Holds h rs rest) o old new (set xs 0 d ≡ xs) (map f xs) (map f (set xs 0 d))
-set_up_in f s h rs rest o old new [] x mid d some emptied job = absurd (omega (arith, some))
-set_up_in f s h rs rest o old new (y ∷ ys) x mid d some emptied job =
-    set_up_first s h rs rest o old new _ (f y) (f mid) (f d) (map f ys) (map f ys) emptied job
+pub flushed_stalled : (o o' : Outcome) (R : Type 0) → (o' ≡ o) ⊎ ((o' ≡ record o { ending = WriteFault }) × R) → o'.ending ≡ Stalled → o.ending ≡ Stalled
+flushed_stalled o o' R (inl same) e = sym (ap (λ (x : Outcome). x.ending) same) ∙ e
+flushed_stalled o o' R (inr failed) e = absurd (let no : WriteFault ≡ Stalled = sym (ap (λ (x : Outcome). x.ending) failed.0) ∙ e in cc)
 
 -- ---- a run that ended before the capture was read
 
@@ -401,15 +332,114 @@ stopped_written (Capture at cause) start reading old is = let same : start ≡ S
 stopped_written (Sessions line kind) start reading old is = let same : start ≡ Stops (Sessions line kind) = is tt in rw same (sym (append-nil old))
 stopped_written (TooLarge value) start reading old is = let same : start ≡ Stops (TooLarge value) = is tt in rw same (sym (append-nil old))
 
-pub not_begun : (e : Ending) (start : Start) (reading : Reading) (o : Outcome) (old : List ℕ) (unused : Type 0) (before now : List DeviceNow)
-    → (IsDecided e → start ≡ Stops e) → (e ≡ Stalled → ⊥) → o ≡ record { ending = e; counts = counts_of []; header = false } → unused
-    → Job start reading o old old unused before now
-not_begun e start reading o old unused before now is never same idle = rw same (record {
+-- what was written of it, and what was counted
+not_begun_written : (e : Ending) (start : Start) (reading : Reading) (o : Outcome) (old : List ℕ) → (IsDecided e → start ≡ Stops e)
+    → o ≡ record { ending = e; counts = counts_of []; header = false; devices = 0 } → HasWritten start reading o old old
+not_begun_written e start reading o old is same = rw same (record {
   n = 0;
   within = omega arith;
   counts = refl;
   written = stopped_written e start reading old is;
-  devices = inl idle;
-  stalled = λ x. absurd (never x);
-  decided = λ x. let stops = is x in rw stops (record { ending = refl; records = refl; header = refl; devices = tt });
+  whole = λ x. let stops = is x in rw stops (refl, refl, refl);
 })
+
+-- ---- whole runs, but for the report
+
+pub not_begun : (e : Ending) (start : Start) (reading : Reading) (o : Outcome) (old : List ℕ) (kept : ℕ → Type 0) (before now : List DeviceNow)
+    → (IsDecided e → start ≡ Stops e) → (e ≡ Stalled → ⊥) → o ≡ record { ending = e; counts = counts_of []; header = false; devices = 0 } → kept 0
+    → Job start reading o old old kept before now
+not_begun e start reading o old kept before now is never same idle =
+    let ending : o.ending ≡ e = ap (λ (x : Outcome). x.ending) same in
+    record {
+      wrote = not_begun_written e start reading o old is same;
+      used = λ x. absurd (let no : false ≡ true = sym (ap (λ (y : Outcome). y.header) same) ∙ x in cc);
+      devices = inl (record { n = 0; some = inl refl; others = idle });
+      stalled = λ x. absurd (never (sym ending ∙ x));
+      decided = λ x. let stops = is (subst IsDecided ending x) in rw stops tt;
+    }
+
+module _ (s : Settings) (h : Header) (rs : List Rec) (rest : Rest) (o : Outcome) (old new : List ℕ) (kept : ℕ → Type 0) (before now : List DeviceNow) where
+  -- memory was wanting when the first n devices were ready
+  pub wanting : (n : ℕ) → n ≤ workers_of s.dealing → o ≡ record { ending = Memory; counts = counts_of []; header = true; devices = workers_of s.dealing } → new ≡ old
+      → ((k : ℕ) → k < n → IsReady s.plan (at before k) (at now k)) → kept n → Job (Begins s) (Holds h rs rest) o old new kept before now
+  wanting n few is same ready others =
+      let ending : o.ending ≡ Memory = ap (λ (x : Outcome). x.ending) is in
+      record {
+        wrote = not_set_up s h rs rest o old old new (workers_of s.dealing) is same;
+        used = λ x. ap (λ (y : Outcome). y.devices) is;
+        devices = inl (record { n = n; some = inr (ending, ap (λ (x : Outcome). x.header) is, few, ready); others = others });
+        stalled = λ x. absurd (let no : Memory ≡ Stalled = sym ending ∙ x in cc);
+        decided = λ x. absurd (subst IsDecided ending x);
+      }
+
+  -- the devices have served
+  pub served : HasWritten (Begins s) (Holds h rs rest) o old new → o.header ≡ true → o.devices ≡ workers_of s.dealing → HaveServed s (entries_from s.plan 0 rs) before now
+      → (IsDecided o.ending → taken_together (workers_of s.dealing) now ≡ length (entries_from s.plan 0 rs)) → Job (Begins s) (Holds h rs rest) o old new kept before now
+  served wrote header devices serves whole = record {
+    wrote = wrote;
+    used = λ x. devices;
+    devices = inr serves;
+    stalled = λ x. (header, serves);
+    decided = λ x. (serves, whole x);
+  }
+
+-- the same, where it is known who deals
+module _ (plan : Plan) (burst : ℕ) (x d : Dealing) (is : x ≡ d) (h : Header) (rs : List Rec) (rest : Rest) (o : Outcome) (old new : List ℕ) (kept : ℕ → Type 0) (before now : List DeviceNow) where
+  abbrev by : Dealing → Settings
+  by y = record { plan = plan; burst = burst; dealing = y }
+
+  pub wanting_by : (n : ℕ) → n ≤ workers_of d → o ≡ record { ending = Memory; counts = counts_of []; header = true; devices = workers_of d } → new ≡ old
+      → ((k : ℕ) → k < n → IsReady plan (at before k) (at now k)) → kept n → Job (Begins (by x)) (Holds h rs rest) o old new kept before now
+  wanting_by n few same wrote ready others =
+      subst (λ (y : Dealing). Job (Begins (by y)) (Holds h rs rest) o old new kept before now) (sym is) (wanting (by d) h rs rest o old new kept before now n few same wrote ready others)
+
+  pub served_by : HasWritten (Begins (by x)) (Holds h rs rest) o old new → o.header ≡ true → o.devices ≡ workers_of x → HaveServed (by d) (entries_from plan 0 rs) before now
+      → (IsDecided o.ending → taken_together (workers_of d) now ≡ length (entries_from plan 0 rs)) → Job (Begins (by x)) (Holds h rs rest) o old new kept before now
+  served_by wrote header devices serves whole =
+      served (by x) h rs rest o old new kept before now wrote header devices (subst (λ (y : Dealing). HaveServed (by y) (entries_from plan 0 rs) before now) (sym is) serves)
+      (λ k. subst (λ (y : Dealing). taken_together (workers_of y) now ≡ length (entries_from plan 0 rs)) (sym is) (whole k))
+
+-- ---- a run that ended at the capture's header
+
+no_header : (s : Settings) (at : ℕ) (cause : CaptureCause) (o : Outcome) (old : List ℕ) (kept : ℕ → Type 0) (before now : List DeviceNow)
+    → o ≡ record { ending = Capture at cause; counts = counts_of []; header = false; devices = 0 } → kept 0 → Job (Begins s) (NoHeader at cause) o old old kept before now
+no_header s at cause o old kept before now is idle =
+    let ending : o.ending ≡ Capture at cause = ap (λ (x : Outcome). x.ending) is in
+    record {
+      wrote = rw is (record { n = 0; within = omega arith; counts = refl; written = sym (append-nil old); whole = λ x. (refl, refl, refl) });
+      used = λ x. absurd (let no : false ≡ true = sym (ap (λ (y : Outcome). y.header) is) ∙ x in cc);
+      devices = inl (record { n = 0; some = inl refl; others = idle });
+      stalled = λ x. absurd (let no : Capture at cause ≡ Stalled = sym ending ∙ x in cc);
+      decided = λ x. tt;
+    }
+
+pub header_stopped : (s : Settings) (stop : ReadStop) (bytes : List ℕ) (reading : Reading) (o : Outcome) (old : List ℕ) (kept : ℕ → Type 0) (before now : List DeviceNow)
+    → StopsHeader bytes stop → IsReading bytes reading → o ≡ record { ending = stop_ending stop; counts = counts_of []; header = false; devices = 0 } → kept 0
+    → Job (Begins s) reading o old old kept before now
+header_stopped s Fault bytes reading o old kept before now stops reads is idle =
+    let ending : o.ending ≡ ReadFault = ap (λ (x : Outcome). x.ending) is in
+    record {
+      wrote = rw is (record { n = 0; within = omega arith; counts = refl; written = inl (refl, refl); whole = λ no. absurd no });
+      used = λ x. absurd (let no : false ≡ true = sym (ap (λ (y : Outcome). y.header) is) ∙ x in cc);
+      devices = inl (record { n = 0; some = inl refl; others = idle });
+      stalled = λ x. absurd (let no : ReadFault ≡ Stalled = sym ending ∙ x in cc);
+      decided = λ x. absurd (subst IsDecided ending x);
+    }
+header_stopped s (BadCapture at cause) bytes (NoHeader at' cause') o old kept before now stops reads is idle =
+    let both : (at, cause) ≡ (at', cause') = (let e : Err (at, cause) ≡ Err (at', cause') = sym stops ∙ reads in cc) in
+    subst (λ (p : ℕ × CaptureCause). Job (Begins s) (NoHeader p.0 p.1) o old old kept before now) both (no_header s at cause o old kept before now is idle)
+header_stopped s (BadCapture at cause) bytes (Holds h rs rest) o old kept before now stops reads is idle =
+    absurd (let no : Err (at, cause) ≡ Ok (h, reads.0) = sym stops ∙ reads.1 in cc)
+header_stopped s ReadStop.End bytes reading o old kept before now stops reads is idle = absurd stops
+header_stopped s (ReadStop.TooLarge value) bytes reading o old kept before now stops reads is idle = absurd stops
+header_stopped s OutOfMemory bytes reading o old kept before now stops reads is idle = absurd stops
+
+-- ---- behind the capture's header
+
+-- what holds of every reading that begins with the header, behind which this is left, holds of each reading
+pub header_read : (P : Reading → Type 0) (header : Header) (bytes left : List ℕ) → header_at bytes ≡ Ok (header, left)
+    → ((rs : List Rec) (rest : Rest) → Records header.big first_place left rs rest → P (Holds header rs rest)) → (reading : Reading) → IsReading bytes reading → P reading
+header_read P header bytes left found holds (NoHeader at cause) reads = absurd (let no : Ok (header, left) ≡ Err (at, cause) = sym found ∙ reads in cc)
+header_read P header bytes left found holds (Holds h rs rest) reads =
+    let same : (header, left) ≡ (h, reads.0) = (let e : Ok (header, left) ≡ Ok (h, reads.0) = sym found ∙ reads.1 in cc) in
+    subst (λ (p : Header × List ℕ). Records p.0.big first_place p.1 rs rest → P (Holds p.0 rs rest)) same (holds rs rest) reads.2

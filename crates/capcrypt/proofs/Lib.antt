@@ -1,4 +1,9 @@
+mod Lists
 mod Fronts
 mod Jobs
-mod Told
 mod TwoParts
+mod Working
+mod Limits
+mod Alone
+mod Dealt
+mod Asked

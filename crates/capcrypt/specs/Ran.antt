@@ -1,20 +1,23 @@
 -- What a run did.
-use Rattle.std.specs.Prelude.{◌≡◌, ◌≤◌, ◌<◌, ◌+◌, ◌⊎◌, ◌++◌, ℕ, true, List, length, take, Option, option_map}
+use Rattle.std.specs.Prelude.{◌≡◌, ◌≤◌, ◌<◌, ◌+◌, ◌^◌, ◌⊎◌, ◌++◌, ℕ, true, List, length, take, Option, option_map}
 use Rattle.crypto_model.specs.Counts.{capped}
 use Rattle.dev_core.specs.declared.driver.LogEntry.{LogEntry}
+use Rattle.dev_core.specs.Calls.{Call}
+use Rattle.dev_core.specs.Offers.{Flows, taken_by}
 use Rattle.capture_io.specs.declared.header.ReadStop.{ReadStop}
 use Rattle.capture_io.specs.declared.header.ReadStop.TheVariants.{Fault, BadCapture, OutOfMemory}
 use Rattle.capture_io.specs.Capture.{Reading, NoHeader, Holds}
-use Rattle.session_file.specs.declared.plan.Plan.{Plan}
-use Rattle.packet_plan.specs.Asked.{sessions_of}
 use Rattle.packet_flow.specs.declared.flow.FlowEnd.{FlowEnd}
 use Rattle.packet_flow.specs.declared.flow.FlowEnd.TheVariants as flow
 use Rattle.packet_flow.specs.Entries.{entries_from}
+use Rattle.sched_modes.specs.Dealing.{IsFrontOf}
 use Rattle.capcrypt.specs.declared.ending.Outcome.{Outcome}
 use Rattle.capcrypt.specs.declared.ending.Ending.{Ending}
 use Rattle.capcrypt.specs.declared.ending.Ending.TheVariants.{Done, Memory, Usage, Vdev, Capture, Sessions, ReadFault, WriteFault, Stalled, TooLarge}
-use Rattle.capcrypt.specs.Devices.{DeviceNow, workers, at, operations_of}
-use Rattle.capcrypt.specs.Start.{Start, Begins, Stops}
+use Rattle.capcrypt.specs.Dealing.{workers_of}
+use Rattle.capcrypt.specs.Devices.{DeviceNow, at, operations_of, taken_together}
+use Rattle.capcrypt.specs.Served.{HaveServed, IsReady}
+use Rattle.capcrypt.specs.Start.{Start, Begins, Stops, workers_in}
 use Rattle.capcrypt.specs.Written.{answers_of, counts_upto, written_of, written_upto, ending_of, reads_header}
 use Rattle.capcrypt.specs.Report.{number_of, report_of}
 
@@ -69,48 +72,63 @@ IsWritten ReadFault start reading n old new = AppendsRecords start reading n old
 IsWritten Stalled start reading n old new = AppendsRecords start reading n old new
 IsWritten _ start reading n old new = new ≡ old ++ written_of start reading
 
--- This run has set the device up for the plan, and it has taken these operations since. Its log, where it tells one,
--- is the list of them.
-pub record HasServed (plan : Plan) (taken : List LogEntry) (before : Option (List LogEntry)) (d : DeviceNow) : Type 0 where
-  pub depth : d.depth ≡ 128
-  pub sessions : d.sessions ≡ sessions_of plan
-  pub enqueued : d.enqueued ≡ capped (length taken)
-  pub log : d.log ≡ option_map (λ l. taken) before
+-- The used devices have served, on the operations that the plan makes of the records.
+abbrev pub Serves : Start → Reading → List DeviceNow → List DeviceNow → Type 0
+Serves (Begins s) (Holds h rs rest) before now = HaveServed s (entries_from s.plan 0 rs) before now
+Serves (Begins s) (NoHeader at cause) before now = ⊥
+Serves (Stops e) reading before now = ⊥
 
--- Each used device has taken the first of the operations that the plan makes of the records.
-abbrev pub ServesFront : Start → Reading → List DeviceNow → List DeviceNow → Type 0
-ServesFront (Begins s) (Holds h rs rest) before now =
-    (i : ℕ) → i < workers → (k : ℕ) × HasServed s.plan (take k (entries_from s.plan 0 rs)) (at before i).log (at now i)
-ServesFront (Begins s) (NoHeader at cause) before now = ⊥
-ServesFront (Stops e) reading before now = ⊥
-
--- It has taken all of them.
+-- They have taken all of them.
 abbrev pub ServesWhole : Start → Reading → List DeviceNow → List DeviceNow → Type 0
-ServesWhole (Begins s) (Holds h rs rest) before now = (i : ℕ) → i < workers → HasServed s.plan (entries_from s.plan 0 rs) (at before i).log (at now i)
+ServesWhole (Begins s) (Holds h rs rest) before now =
+    HaveServed s (entries_from s.plan 0 rs) before now × (taken_together (workers_of s.dealing) now ≡ length (entries_from s.plan 0 rs))
 ServesWhole (Begins s) (NoHeader at cause) before now = Unit {0}
 ServesWhole (Stops e) reading before now = Unit {0}
 
--- All that the words and the capture say was done.
-pub record IsWhole (start : Start) (reading : Reading) (n : ℕ) (o : Outcome) (before now : List DeviceNow) : Type 0 where
-  pub ending : o.ending ≡ ending_of start reading
-  pub records : n ≡ length (answers_of start reading)
-  pub header : o.header ≡ reads_header start reading
-  pub devices : ServesWhole start reading before now
+-- The first n of the devices that were to be used are ready, and then memory was wanting.
+abbrev pub AreSetUp : Start → (n : ℕ) → Outcome → List DeviceNow → List DeviceNow → Type 0
+AreSetUp (Begins s) n o before now = (o.ending ≡ Memory) × (o.header ≡ true) × (n ≤ workers_of s.dealing)
+    × ((k : ℕ) → k < n → IsReady s.plan (at before k) (at now k))
+AreSetUp (Stops e) n o before now = ⊥
 
--- A run but for its report, which wrote n records whole. The devices are as they were (`unused`), or have served.
-pub record Job (start : Start) (reading : Reading) (o : Outcome) (old new : List ℕ) (unused : Type 0) (before now : List DeviceNow) : Type 0 where
+-- No device was used: but for some that were set up, all are as they were (`kept n`: all behind the first n).
+pub record IsUnused (start : Start) (o : Outcome) (kept : ℕ → Type 0) (before now : List DeviceNow) : Type 0 where
+  pub n : ℕ
+  pub some : (n ≡ 0) ⊎ AreSetUp start n o before now
+  pub others : kept n
+
+-- What a driver was offered and took where the run ended so: calls offered it these operations in bursts, and it took
+-- the first of them, or all where the words and the capture decide the ending.
+pub record IsDriven (burst : ℕ) (ops : List LogEntry) (e : Ending) (past : List Call) (enqueued : ℕ) (before now : Option (List LogEntry)) : Type 0 where
+  pub taken : List LogEntry
+  pub front : IsFrontOf ops taken
+  pub whole : IsDecided e → taken ≡ ops
+  pub count : length taken ≡ taken_by past
+  pub enqueued_is : enqueued ≡ capped (length taken)
+  pub log_is : now ≡ option_map (λ l. taken) before
+  pub flows : Flows burst ops past
+  pub few : length ops < 2 ^ 32
+
+-- What a run whose outcome is this appended, which wrote n records whole.
+pub record HasWritten (start : Start) (reading : Reading) (o : Outcome) (old new : List ℕ) : Type 0 where
   pub n : ℕ
   pub within : n ≤ length (answers_of start reading)
   pub counts : o.counts ≡ counts_upto start reading n
   pub written : IsWritten o.ending start reading n old new
-  pub devices : unused ⊎ ServesFront start reading before now
-  pub stalled : o.ending ≡ Stalled → (o.header ≡ true) × ServesFront start reading before now
-  pub decided : IsDecided o.ending → IsWhole start reading n o before now
+  pub whole : IsDecided o.ending → (o.ending ≡ ending_of start reading) × (n ≡ length (answers_of start reading)) × (o.header ≡ reads_header start reading)
+
+-- A run but for its report: what it wrote, and what its devices did.
+pub record Job (start : Start) (reading : Reading) (o : Outcome) (old new : List ℕ) (kept : ℕ → Type 0) (before now : List DeviceNow) : Type 0 where
+  pub wrote : HasWritten start reading o old new
+  pub used : o.header ≡ true → o.devices ≡ workers_in start
+  pub devices : IsUnused start o kept before now ⊎ Serves start reading before now
+  pub stalled : o.ending ≡ Stalled → (o.header ≡ true) × Serves start reading before now
+  pub decided : IsDecided o.ending → ServesWhole start reading before now
 
 -- The same with the report: the status is that of the outcome that the report tells, or the report failed.
-pub record Ran (start : Start) (reading : Reading) (status : ℕ) (old new : List ℕ) (unused : Type 0) (before now : List DeviceNow)
+pub record Ran (start : Start) (reading : Reading) (status : ℕ) (old new : List ℕ) (kept : ℕ → Type 0) (before now : List DeviceNow)
     (report_old report_new : List ℕ) (report_rose : Type 0) : Type 0 where
   pub outcome : Outcome
-  pub job : Job start reading outcome old new unused before now
-  pub reported : ((status ≡ number_of outcome.ending) × (report_new ≡ report_old ++ report_of outcome (operations_of now)))
-      ⊎ ((status ≡ 6) × report_rose × AppendsFront report_old report_new (report_of outcome (operations_of now)))
+  pub job : Job start reading outcome old new kept before now
+  pub reported : ((status ≡ number_of outcome.ending) × (report_new ≡ report_old ++ report_of outcome (operations_of outcome.devices now)))
+      ⊎ ((status ≡ 6) × report_rose × AppendsFront report_old report_new (report_of outcome (operations_of outcome.devices now)))

@@ -34,12 +34,14 @@ impl From<OutOfMemory> for Ending {
     }
 }
 
-/// What a report tells: `header` is whether the capture's header was read.
+/// What a report tells: `header` is whether the capture's header was read, and then `devices` how many devices
+/// were used.
 #[derive(Clone, Copy, Debug, PartialEq, Eq)]
 pub struct Outcome {
     pub ending: Ending,
     pub counts: Counts,
     pub header: bool,
+    pub devices: usize,
 }
 
 /// The exit status of an ending.

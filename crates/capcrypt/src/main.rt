@@ -9,8 +9,10 @@
 ghost use Rattle.std.specs.Prelude.{◌≡◌, [], All, IfOk, length};
 ghost use Rattle.sym_engine.specs.Driver.{held_of};
 
+mod deal;
 mod ending;
 mod line;
+mod ready;
 mod report;
 mod start;
 mod top;
@@ -115,7 +117,7 @@ fn status(rt: &HostRuntime) -> Result<u8, OutOfMemory> {
 
 // The report where memory was wanting before the run, which takes none.
 fn told_at_once(rt: &HostRuntime) -> u8 {
-    let outcome = without_packets(Ending::Memory, false);
+    let outcome = without_packets(Ending::Memory, false, 0);
     match write_report(&mut StdSink::new(rt.stderr()), &outcome, &[]) {
         Ok(()) => 1,
         Err(_) => 6,

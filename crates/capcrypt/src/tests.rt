@@ -90,7 +90,7 @@ struct TestSink {
 impl TestSink {
     fn new(alloc: Global, writes: &[u32], flush_fails: bool) -> Result<TestSink, OutOfMemory> {
         Ok(TestSink {
-            sink: MemSink::new(alloc, 300_000, Vec::from_slice(alloc, writes)?)?,
+            sink: MemSink::new(alloc, 1_000_000, Vec::from_slice(alloc, writes)?)?,
             flush_fails,
             flushes: 0,
             unflushed: 0,
@@ -219,7 +219,9 @@ fn quick(
 }
 
 mod crypt;
+mod deal;
 mod devices;
+mod kinds;
 mod order;
 
 #[test]

@@ -1,13 +1,13 @@
 //! The top call.
-ghost use Rattle.std.specs.Prelude.{◌≡◌, ◌≤◌, ◌<◌, ◌⊎◌, List, [], length, map, drop, All, string_bytes, Err};
+ghost use Rattle.std.specs.Prelude.{◌≡◌, ◌≤◌, ◌<◌, ◌⊎◌, List, [], length, map, take, drop, All, string_bytes, Err};
 ghost use Rattle.crypto_model.specs.Counts.{Rose};
 ghost use Rattle.crypto_op.specs.declared.spec.Card.{Card};
 ghost use Rattle.capture_io.specs.Capture.{Reading, IsReading};
 ghost use Rattle.command_words.specs.Asked.{Fault, asked};
-ghost use Rattle.capcrypt.specs.Start.{LeavesSessions, Stops, started};
+ghost use Rattle.capcrypt.specs.Start.{LeavesSessions, Stops, started, workers_asked};
 ghost use Rattle.capcrypt.specs.Written.{ending_of};
 ghost use Rattle.capcrypt.specs.Report.{number_of};
-ghost use Rattle.capcrypt.specs.Devices.{HaveStalledOut, devices_now, operations_of};
+ghost use Rattle.capcrypt.specs.Devices.{HaveStalledOut, devices_now};
 ghost use Rattle.capcrypt.specs.Ran.{IsLate, Job, Ran};
 
 use crate::ending::{Ending, Outcome, number};
@@ -16,7 +16,7 @@ use crate::start::begin;
 use crate::work::{process_capture, without_packets};
 use capture_io::{Sink, Source};
 use crypto_op::Card;
-use dev_core::Device;
+use dev_core::{Device, Driver};
 use std::alloc::Global;
 
 /// What a run leaves: its exit status, the devices that it was handed, in their order, and how many
@@ -28,6 +28,18 @@ pub struct Done<D> {
     pub helped: u64,
 }
 
+// How many operations each device has taken.
+fn operations_of<D: Driver<Card>>(devs: &[D]) -> [u64; 8]
+    requires { length devs.now ≤ 8 }
+    ensures { take (length devs.now) result ≡ map (λ d. (D.stats d).enqueued) devs.now }
+{
+    let mut operations = [0; 8];
+    for (i, dev) in devs.iter().enumerate() {
+        operations[i] = dev.stats().enqueued;
+    }
+    operations
+}
+
 // A whole run, but for its report: by the words and the session text, and then by the capture.
 fn run_unreported<S: Source, T: Source, K: Sink, D: Device<Card>>(
     alloc: Global,
@@ -35,36 +47,38 @@ fn run_unreported<S: Source, T: Source, K: Sink, D: Device<Card>>(
     capture: &mut S,
     sessions: &mut T,
     out: &mut K,
-    devs: &mut [D],
-) -> Outcome
-    requires some { 0 < length devs.old }
-    requires idle { All (λ d. D.held d ≡ []) devs.old }
+    devs: Vec<D>,
+) -> (Outcome, Vec<D>)
+    requires some { 0 < length devs.items }
+    requires idle { All (λ d. D.held d ≡ []) devs.items }
     ensures job { S.tells → T.tells → K.tells → (reading : Reading) → IsReading (S.left capture.old) reading
         → let now = devices_now D.limit D.sessions D.held D.room D.stalls D.stats D.log
-        in Job (started (map string_bytes words.now) (length devs.old) (T.left sessions.old)) reading result (K.written out.old) (K.written out.new)
-        (devs.new ≡ devs.old) (now devs.old) (now devs.new) }
-    ensures count { length devs.new ≡ length devs.old }
-    ensures others { drop 1 devs.new ≡ drop 1 devs.old }
-    ensures unread { LeavesSessions (asked (map string_bytes words.now) (length devs.old)) → sessions.new ≡ sessions.old }
-    ensures ended { S.tells → result.ending ≡ Ending.Done → S.left capture.new ≡ [] }
-    ensures stalled { result.ending ≡ Ending.Stalled
-        → let now = devices_now D.limit D.sessions D.held D.room D.stalls D.stats D.log in HaveStalledOut (now devs.old) (now devs.new) }
+        in Job (started (map string_bytes words.now) (length devs.items) (T.left sessions.old)) reading result.0 (K.written out.old) (K.written out.new)
+        (λ n. drop n result.1.items ≡ drop n devs.items) (now devs.items) (now result.1.items) }
+    ensures count { length result.1.items ≡ length devs.items }
+    ensures few { result.0.devices ≤ length devs.items }
+    ensures others { let w = workers_asked (asked (map string_bytes words.now) (length devs.items)) in drop w result.1.items ≡ drop w devs.items }
+    ensures unread { LeavesSessions (asked (map string_bytes words.now) (length devs.items)) → sessions.new ≡ sessions.old }
+    ensures ended { S.tells → result.0.ending ≡ Ending.Done → S.left capture.new ≡ [] }
+    ensures stalled { result.0.ending ≡ Ending.Stalled
+        → let now = devices_now D.limit D.sessions D.held D.room D.stalls D.stats D.log
+        in HaveStalledOut (workers_asked (asked (map string_bytes words.now) (length devs.items))) (now devs.items) (now result.1.items) }
 
     // Where the run ends before the capture is read, capture and output are as they were, and only the session source fails.
-    ensures refused { (fault : Fault) → asked (map string_bytes words.now) (length devs.old) ≡ Err fault → (capture.new ≡ capture.old) × (out.new ≡ out.old) }
-    ensures stopped { T.tells → (e : Ending) → started (map string_bytes words.now) (length devs.old) (T.left sessions.old) ≡ Stops e
-        → (capture.new ≡ capture.old) × (out.new ≡ out.old) × ¬ (result.ending ≡ Ending.WriteFault)
-        × (result.ending ≡ Ending.ReadFault → Rose (T.faults sessions.old) (T.faults sessions.new)) }
-    ensures early { IsLate result.ending ⊎ ((capture.new ≡ capture.old) × (out.new ≡ out.old)) }
-    ensures read_cause { result.ending ≡ Ending.ReadFault
+    ensures refused { (fault : Fault) → asked (map string_bytes words.now) (length devs.items) ≡ Err fault → (capture.new ≡ capture.old) × (out.new ≡ out.old) }
+    ensures stopped { T.tells → (e : Ending) → started (map string_bytes words.now) (length devs.items) (T.left sessions.old) ≡ Stops e
+        → (capture.new ≡ capture.old) × (out.new ≡ out.old) × ¬ (result.0.ending ≡ Ending.WriteFault)
+        × (result.0.ending ≡ Ending.ReadFault → Rose (T.faults sessions.old) (T.faults sessions.new)) }
+    ensures early { IsLate result.0.ending ⊎ ((capture.new ≡ capture.old) × (out.new ≡ out.old)) }
+    ensures read_cause { result.0.ending ≡ Ending.ReadFault
         → Rose (S.faults capture.old) (S.faults capture.new) ⊎ Rose (T.faults sessions.old) (T.faults sessions.new) }
     ensures write_later { K.faults out.old ≤ K.faults out.new }
-    ensures write_cause { result.ending ≡ Ending.WriteFault → Rose (K.faults out.old) (K.faults out.new) }
-    ensures write_steady { K.steady → ¬ (result.ending ≡ Ending.WriteFault) → K.faults out.new ≡ K.faults out.old }
+    ensures write_cause { result.0.ending ≡ Ending.WriteFault → Rose (K.faults out.old) (K.faults out.new) }
+    ensures write_steady { K.steady → ¬ (result.0.ending ≡ Ending.WriteFault) → K.faults out.new ≡ K.faults out.old }
 {
     match begin(alloc, words, devs.len(), sessions) {
         Ok(task) => process_capture(alloc, &task, capture, out, devs),
-        Err(ending) => without_packets(ending, false),
+        Err(ending) => (without_packets(ending, false, 0), devs),
     }
 }
 
@@ -94,11 +108,11 @@ pub fn run<S: Source, T: Source, K: Sink, E: Sink, D: Device<Card>>(
     ensures ran { S.tells → T.tells → K.tells → E.tells → (reading : Reading) → IsReading (S.left capture.old) reading
         → let now = devices_now D.limit D.sessions D.held D.room D.stalls D.stats D.log
         in Ran (started (map string_bytes words.now) (length devs.items) (T.left sessions.old)) reading result.status (K.written out.old) (K.written out.new)
-        (result.devs.items ≡ devs.items) (now devs.items) (now result.devs.items)
+        (λ n. drop n result.devs.items ≡ drop n devs.items) (now devs.items) (now result.devs.items)
         (E.written report.old) (E.written report.new) (Rose (E.faults report.old) (E.faults report.new)) }
     // The devices behind the used ones are as they were, and so is the session source where the words don't ask for it.
     ensures devices { length result.devs.items ≡ length devs.items }
-    ensures others { drop 1 result.devs.items ≡ drop 1 devs.items }
+    ensures others { let w = workers_asked (asked (map string_bytes words.now) (length devs.items)) in drop w result.devs.items ≡ drop w devs.items }
     ensures unread { LeavesSessions (asked (map string_bytes words.now) (length devs.items)) → sessions.new ≡ sessions.old }
     ensures helped { result.helped ≡ 0 }
     ensures whole { S.tells → result.status ≡ 0 → S.left capture.new ≡ [] }
@@ -115,7 +129,8 @@ pub fn run<S: Source, T: Source, K: Sink, E: Sink, D: Device<Card>>(
     ensures read_cause { result.status ≡ 5 → Rose (S.faults capture.old) (S.faults capture.new) ⊎ Rose (T.faults sessions.old) (T.faults sessions.new) }
     ensures write_cause { result.status ≡ 6 → Rose (K.faults out.old) (K.faults out.new) ⊎ Rose (E.faults report.old) (E.faults report.new) }
     ensures stall_cause { result.status ≡ 7
-        → let now = devices_now D.limit D.sessions D.held D.room D.stalls D.stats D.log in HaveStalledOut (now devs.items) (now result.devs.items) }
+        → let now = devices_now D.limit D.sessions D.held D.room D.stalls D.stats D.log
+        in HaveStalledOut (workers_asked (asked (map string_bytes words.now) (length devs.items))) (now devs.items) (now result.devs.items) }
     // A write or a flush that failed is told.
     ensures out_steady { K.steady → ¬ (result.status ≡ 6) → K.faults out.new ≡ K.faults out.old }
     ensures report_steady { E.steady → ¬ (result.status ≡ 6) → E.faults report.new ≡ E.faults report.old }
@@ -124,14 +139,14 @@ pub fn run<S: Source, T: Source, K: Sink, E: Sink, D: Device<Card>>(
     ensures complete { S.tells → T.tells → K.tells → E.tells → (reading : Reading) → IsReading (S.left capture.old) reading
         → ¬ Rose (S.faults capture.old) (S.faults capture.new) → ¬ Rose (T.faults sessions.old) (T.faults sessions.new)
         → ¬ Rose (K.faults out.old) (K.faults out.new) → ¬ Rose (E.faults report.old) (E.faults report.new)
-        → (let now = devices_now D.limit D.sessions D.held D.room D.stalls D.stats D.log in ¬ HaveStalledOut (now devs.items) (now result.devs.items))
+        → (let now = devices_now D.limit D.sessions D.held D.room D.stalls D.stats D.log
+        in ¬ HaveStalledOut (workers_asked (asked (map string_bytes words.now) (length devs.items))) (now devs.items) (now result.devs.items))
         → (result.status ≡ 1)
         ⊎ (result.status ≡ number_of (ending_of (started (map string_bytes words.now) (length devs.items) (T.left sessions.old)) reading)) }
 {
-    let mut devs = devs;
-    let outcome = run_unreported(alloc, words, capture, sessions, out, &mut devs);
-    let operations = devs[0].stats().enqueued;
-    let status = match write_report(report, &outcome, &[operations]) {
+    let (outcome, devs) = run_unreported(alloc, words, capture, sessions, out, devs);
+    let operations = operations_of(&devs);
+    let status = match write_report(report, &outcome, &operations[..outcome.devices]) {
         Ok(()) => number(&outcome.ending),
         Err(_) => 6,
     };

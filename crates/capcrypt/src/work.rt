@@ -1,5 +1,5 @@
 //! A run whose plan is known.
-ghost use Rattle.std.specs.Prelude.{◌≡◌, ◌≤◌, ◌<◌, ◌⊎◌, true, List, [], ◌∷◌, length, drop, option_map, All, OnOk, OnErr};
+ghost use Rattle.std.specs.Prelude.{◌≡◌, ◌≤◌, ◌<◌, ◌⊎◌, true, List, [], ◌∷◌, length, drop, option_map, All, None};
 ghost use Rattle.crypto_model.specs.Counts.{Rose};
 ghost use Rattle.crypto_op.specs.declared.spec.Card.{Card};
 ghost use Rattle.dev_core.specs.Calls.{Call, Ran};
@@ -8,24 +8,22 @@ ghost use Rattle.capture_io.specs.Capture.{Rec, Rest, Records, Reading, IsReadin
 ghost use Rattle.packet_plan.specs.Asked.{sessions_of};
 ghost use Rattle.packet_flow.specs.Counts.{counts_of};
 ghost use Rattle.packet_flow.specs.Entries.{entries_from};
-ghost use Rattle.dev_core.specs.Offers.{Flows};
-ghost use Rattle.capcrypt.specs.Start.{Begins, settings_of};
+ghost use Rattle.packet_flow.specs.Turns.{NeverIdle};
+ghost use Rattle.capcrypt.specs.Dealing.{dealing_of, workers_of};
+ghost use Rattle.capcrypt.specs.Start.{Begins, CanStart, settings_of};
 ghost use Rattle.capcrypt.specs.Written.{raised};
 ghost use Rattle.capcrypt.specs.Devices.{HasStalledOut, HaveStalledOut, devices_now};
-ghost use Rattle.capcrypt.specs.Ran.{IsLate, Job};
+ghost use Rattle.capcrypt.specs.Ran.{HasWritten, IsDriven, IsLate, Job};
 
+use crate::deal::deal_packets;
 use crate::ending::{Ending, Outcome, ending_of_flow, ending_of_stop};
+use crate::ready::{set_up, table_of};
 use crate::start::Task;
 use capture_io::{Header, Sink, Source, read_header, write_header};
-use crypto_model::OutOfMemory;
 use crypto_op::Card;
-use dev_core::{Device, Kind, SetUpRefused};
+use dev_core::{Device, Driver, Kind};
 use packet_flow::{Counts, transfer};
-use packet_plan::ReadyPlan;
 use std::alloc::Global;
-use std::sync::Arc;
-
-const DEPTH: usize = 128;
 
 const SNAPLEN: u32 = 262_208;
 
@@ -37,39 +35,28 @@ fn raise(header: &Header) -> Header
 }
 
 /// The outcome of a run that wrote no packet.
-pub(crate) fn without_packets(ending: Ending, header: bool) -> Outcome
-    ensures { result ≡ record { ending = ending; counts = counts_of []; header = header } }
+pub(crate) fn without_packets(ending: Ending, header: bool, devices: usize) -> Outcome
+    ensures { result ≡ record { ending = ending; counts = counts_of []; header = header; devices = devices } }
 {
     Outcome {
         ending,
         counts: Counts::new(),
         header,
+        devices,
     }
 }
 
-// Sets the device up for the plan.
-fn set_up<D: Device<Card>>(alloc: Global, plan: &ReadyPlan, dev: &mut D) -> Result<(), OutOfMemory>
-    requires idle { D.held dev.old ≡ [] }
-    ensures depth { OnOk result (D.limit dev.new ≡ 128) }
-    ensures sessions { OnOk result (D.sessions dev.new ≡ sessions_of plan.now) }
-    ensures held { OnOk result (D.held dev.new ≡ []) }
-    ensures stats { OnOk result (D.stats dev.new ≡ no_stats) }
-    ensures log { OnOk result (D.log dev.new ≡ option_map (λ l. []) (D.log dev.old)) }
-    ensures unused { OnErr result (dev.new ≡ dev.old) }
-    ensures stalls { D.stalls dev.new ≡ D.stalls dev.old }
+fn devices_of(task: &Task) -> usize
+    ensures { result ≡ workers_of (dealing_of task.now.scheduler) }
 {
-    let table = plan.table(alloc)?;
-    let table = Arc::new(alloc, table)?;
-    match dev.set_up(alloc, Kind::Plain, table, DEPTH) {
-        Ok(()) => Ok(()),
-        Err(SetUpRefused::OutOfMemory) => Err(OutOfMemory),
-        Err(SetUpRefused::BadDepth) => unreachable!(),
-        Err(SetUpRefused::Busy) => unreachable!(),
+    match &task.scheduler {
+        Some(text) => text.workers,
+        None => 1,
     }
 }
 
-// Writes the header, and sends the packets behind it through a driver that is set up.
-fn write_packets<S: Source, K: Sink, D: Device<Card>>(
+// Writes the header, and sends the packets behind it through a driver that is ready.
+fn write_packets<S: Source, K: Sink, D: Driver<Card>>(
     alloc: Global,
     task: &Task,
     header: &Header,
@@ -78,19 +65,21 @@ fn write_packets<S: Source, K: Sink, D: Device<Card>>(
     dev: &mut D,
 ) -> Outcome
     requires burst { (1 ≤ task.now.burst) × (task.now.burst ≤ 256) }
-    requires depth { D.limit dev.old ≡ 128 }
     requires sessions { D.sessions dev.old ≡ sessions_of task.now.plan }
     requires idle { D.held dev.old ≡ [] }
     requires stats { D.stats dev.old ≡ no_stats }
     requires log { D.log dev.old ≡ option_map (λ l. []) (D.log dev.old) }
-    ensures job { S.tells → K.tells → (rs : List Rec) (rest : Rest) → Records header.now.big first_place (S.left capture.old) rs rest
-        → let now = devices_now D.limit D.sessions D.held D.room D.stalls D.stats D.log
-        in Job (Begins (settings_of task.now)) (Holds header.now rs rest) result (K.written out.old) (K.written out.new) ⊥
-        (now (dev.old ∷ [])) (now (dev.new ∷ [])) }
+    requires works { (d : D) → D.follows dev.old d → NeverIdle D.admits D.held d }
+    ensures wrote { S.tells → K.tells → (rs : List Rec) (rest : Rest) → Records header.now.big first_place (S.left capture.old) rs rest
+        → HasWritten (Begins (settings_of task.now)) (Holds header.now rs rest) result (K.written out.old) (K.written out.new) }
     // The calls that it made offer the operations in bursts of the task's size.
-    ensures calls { S.tells → K.tells → (rs : List Rec) (rest : Rest) → Records header.now.big first_place (S.left capture.old) rs rest
-        → (past : List Call) × Ran D.does dev.old past dev.new × Flows task.now.burst (entries_from task.now.plan 0 rs) past }
+    ensures driven { S.tells → K.tells → (rs : List Rec) (rest : Rest) → Records header.now.big first_place (S.left capture.old) rs rest
+        → (past : List Call) × Ran D.does dev.old past dev.new
+        × IsDriven task.now.burst (entries_from task.now.plan 0 rs) result.ending past (D.stats dev.new).enqueued (D.log dev.old) (D.log dev.new) }
     ensures header { result.header ≡ true }
+    ensures devices { result.devices ≡ workers_of (dealing_of task.now.scheduler) }
+    ensures sessions { D.sessions dev.new ≡ D.sessions dev.old }
+    ensures follows { D.follows dev.old dev.new }
     ensures ended { S.tells → result.ending ≡ Ending.Done → S.left capture.new ≡ [] }
     ensures stalled { result.ending ≡ Ending.Stalled → HasStalledOut (D.stalls dev.old) (D.stats dev.new).enqueued (D.stalls dev.new) }
     ensures read_later { S.faults capture.old ≤ S.faults capture.new }
@@ -100,14 +89,16 @@ fn write_packets<S: Source, K: Sink, D: Device<Card>>(
     ensures write_steady { K.steady → ¬ (result.ending ≡ Ending.WriteFault) → K.faults out.new ≡ K.faults out.old }
     ensures late { IsLate result.ending }
 {
+    let devices = devices_of(task);
     if let Err(_fault) = write_header(out, &raise(header)) {
-        return without_packets(Ending::WriteFault, true);
+        return without_packets(Ending::WriteFault, true, devices);
     }
     let flow = transfer(alloc, &task.plan, task.burst, header, capture, out, dev);
     Outcome {
         ending: ending_of_flow(flow.end),
         counts: flow.counts,
         header: true,
+        devices,
     }
 }
 
@@ -127,27 +118,33 @@ fn flushed<K: Sink>(out: &mut K, outcome: Outcome) -> Outcome
     }
 }
 
-// Sets the devices up, writes the packets through them, and flushes.
-fn process_packets<S: Source, K: Sink, D: Device<Card>>(
+/// The same, with a flush behind it.
+pub(crate) fn send_packets<S: Source, K: Sink, D: Driver<Card>>(
     alloc: Global,
     task: &Task,
     header: &Header,
     capture: &mut S,
     out: &mut K,
-    devs: &mut [D],
+    dev: &mut D,
 ) -> Outcome
     requires burst { (1 ≤ task.now.burst) × (task.now.burst ≤ 256) }
-    requires some { 0 < length devs.old }
-    requires idle { All (λ d. D.held d ≡ []) devs.old }
-    ensures job { S.tells → K.tells → (rs : List Rec) (rest : Rest) → Records header.now.big first_place (S.left capture.old) rs rest
-        → let now = devices_now D.limit D.sessions D.held D.room D.stalls D.stats D.log
-        in Job (Begins (settings_of task.now)) (Holds header.now rs rest) result (K.written out.old) (K.written out.new)
-        (devs.new ≡ devs.old) (now devs.old) (now devs.new) }
-    ensures count { length devs.new ≡ length devs.old }
-    ensures others { drop 1 devs.new ≡ drop 1 devs.old }
+    requires sessions { D.sessions dev.old ≡ sessions_of task.now.plan }
+    requires idle { D.held dev.old ≡ [] }
+    requires stats { D.stats dev.old ≡ no_stats }
+    requires log { D.log dev.old ≡ option_map (λ l. []) (D.log dev.old) }
+    requires works { (d : D) → D.follows dev.old d → NeverIdle D.admits D.held d }
+    ensures wrote { S.tells → K.tells → (rs : List Rec) (rest : Rest) → Records header.now.big first_place (S.left capture.old) rs rest
+        → HasWritten (Begins (settings_of task.now)) (Holds header.now rs rest) result (K.written out.old) (K.written out.new) }
+    // The calls that it made offer the operations in bursts of the task's size.
+    ensures driven { S.tells → K.tells → (rs : List Rec) (rest : Rest) → Records header.now.big first_place (S.left capture.old) rs rest
+        → (past : List Call) × Ran D.does dev.old past dev.new
+        × IsDriven task.now.burst (entries_from task.now.plan 0 rs) result.ending past (D.stats dev.new).enqueued (D.log dev.old) (D.log dev.new) }
+    ensures header { result.header ≡ true }
+    ensures devices { result.devices ≡ workers_of (dealing_of task.now.scheduler) }
+    ensures sessions { D.sessions dev.new ≡ D.sessions dev.old }
+    ensures follows { D.follows dev.old dev.new }
     ensures ended { S.tells → result.ending ≡ Ending.Done → S.left capture.new ≡ [] }
-    ensures stalled { result.ending ≡ Ending.Stalled
-        → let now = devices_now D.limit D.sessions D.held D.room D.stalls D.stats D.log in HaveStalledOut (now devs.old) (now devs.new) }
+    ensures stalled { result.ending ≡ Ending.Stalled → HasStalledOut (D.stalls dev.old) (D.stats dev.new).enqueued (D.stalls dev.new) }
     ensures read_later { S.faults capture.old ≤ S.faults capture.new }
     ensures read_cause { result.ending ≡ Ending.ReadFault → Rose (S.faults capture.old) (S.faults capture.new) }
     ensures write_later { K.faults out.old ≤ K.faults out.new }
@@ -155,12 +152,84 @@ fn process_packets<S: Source, K: Sink, D: Device<Card>>(
     ensures write_steady { K.steady → ¬ (result.ending ≡ Ending.WriteFault) → K.faults out.new ≡ K.faults out.old }
     ensures late { IsLate result.ending }
 {
-    let dev = &mut devs[0];
-    let Ok(()) = set_up(alloc, &task.plan, dev) else {
-        return without_packets(Ending::Memory, true);
-    };
     let outcome = write_packets(alloc, task, header, capture, out, dev);
     flushed(out, outcome)
+}
+
+// Sets the first device up, and sends the packets through it alone.
+fn work_alone<S: Source, K: Sink, D: Device<Card>>(
+    alloc: Global,
+    task: &Task,
+    header: &Header,
+    capture: &mut S,
+    out: &mut K,
+    devs: Vec<D>,
+) -> (Outcome, Vec<D>)
+    requires alone { task.now.scheduler ≡ None }
+    requires can { CanStart task.now (length devs.items) }
+    requires idle { All (λ d. D.held d ≡ []) devs.items }
+    ensures job { S.tells → K.tells → (rs : List Rec) (rest : Rest) → Records header.now.big first_place (S.left capture.old) rs rest
+        → let now = devices_now D.limit D.sessions D.held D.room D.stalls D.stats D.log
+        in Job (Begins (settings_of task.now)) (Holds header.now rs rest) result.0 (K.written out.old) (K.written out.new)
+        (λ n. drop n result.1.items ≡ drop n devs.items) (now devs.items) (now result.1.items) }
+    ensures count { length result.1.items ≡ length devs.items }
+    ensures few { result.0.devices ≤ length devs.items }
+    ensures others { let w = workers_of (dealing_of task.now.scheduler) in drop w result.1.items ≡ drop w devs.items }
+    ensures ended { S.tells → result.0.ending ≡ Ending.Done → S.left capture.new ≡ [] }
+    ensures stalled { result.0.ending ≡ Ending.Stalled
+        → let now = devices_now D.limit D.sessions D.held D.room D.stalls D.stats D.log
+        in HaveStalledOut (workers_of (dealing_of task.now.scheduler)) (now devs.items) (now result.1.items) }
+    ensures read_later { S.faults capture.old ≤ S.faults capture.new }
+    ensures read_cause { result.0.ending ≡ Ending.ReadFault → Rose (S.faults capture.old) (S.faults capture.new) }
+    ensures write_later { K.faults out.old ≤ K.faults out.new }
+    ensures write_cause { result.0.ending ≡ Ending.WriteFault → Rose (K.faults out.old) (K.faults out.new) }
+    ensures write_steady { K.steady → ¬ (result.0.ending ≡ Ending.WriteFault) → K.faults out.new ≡ K.faults out.old }
+    ensures late { IsLate result.0.ending }
+{
+    let mut devs = devs;
+    let Ok(sessions) = table_of(alloc, &task.plan) else {
+        return (without_packets(Ending::Memory, true, 1), devs);
+    };
+    let Ok(()) = set_up(alloc, Kind::Plain, &sessions, &mut devs[0]) else {
+        return (without_packets(Ending::Memory, true, 1), devs);
+    };
+    let outcome = send_packets(alloc, task, header, capture, out, &mut devs[0]);
+    (outcome, devs)
+}
+
+// Sends the packets through the devices that the task uses.
+fn process_packets<S: Source, K: Sink, D: Device<Card>>(
+    alloc: Global,
+    task: &Task,
+    header: &Header,
+    capture: &mut S,
+    out: &mut K,
+    devs: Vec<D>,
+) -> (Outcome, Vec<D>)
+    requires can { CanStart task.now (length devs.items) }
+    requires idle { All (λ d. D.held d ≡ []) devs.items }
+    ensures job { S.tells → K.tells → (rs : List Rec) (rest : Rest) → Records header.now.big first_place (S.left capture.old) rs rest
+        → let now = devices_now D.limit D.sessions D.held D.room D.stalls D.stats D.log
+        in Job (Begins (settings_of task.now)) (Holds header.now rs rest) result.0 (K.written out.old) (K.written out.new)
+        (λ n. drop n result.1.items ≡ drop n devs.items) (now devs.items) (now result.1.items) }
+    ensures count { length result.1.items ≡ length devs.items }
+    ensures few { result.0.devices ≤ length devs.items }
+    ensures others { let w = workers_of (dealing_of task.now.scheduler) in drop w result.1.items ≡ drop w devs.items }
+    ensures ended { S.tells → result.0.ending ≡ Ending.Done → S.left capture.new ≡ [] }
+    ensures stalled { result.0.ending ≡ Ending.Stalled
+        → let now = devices_now D.limit D.sessions D.held D.room D.stalls D.stats D.log
+        in HaveStalledOut (workers_of (dealing_of task.now.scheduler)) (now devs.items) (now result.1.items) }
+    ensures read_later { S.faults capture.old ≤ S.faults capture.new }
+    ensures read_cause { result.0.ending ≡ Ending.ReadFault → Rose (S.faults capture.old) (S.faults capture.new) }
+    ensures write_later { K.faults out.old ≤ K.faults out.new }
+    ensures write_cause { result.0.ending ≡ Ending.WriteFault → Rose (K.faults out.old) (K.faults out.new) }
+    ensures write_steady { K.steady → ¬ (result.0.ending ≡ Ending.WriteFault) → K.faults out.new ≡ K.faults out.old }
+    ensures late { IsLate result.0.ending }
+{
+    match &task.scheduler {
+        Some(text) => deal_packets(alloc, task, text, header, capture, out, devs),
+        None => work_alone(alloc, task, header, capture, out, devs),
+    }
 }
 
 /// Reads the header of the capture, and processes the packets behind it.
@@ -169,28 +238,30 @@ pub(crate) fn process_capture<S: Source, K: Sink, D: Device<Card>>(
     task: &Task,
     capture: &mut S,
     out: &mut K,
-    devs: &mut [D],
-) -> Outcome
-    requires burst { (1 ≤ task.now.burst) × (task.now.burst ≤ 256) }
-    requires some { 0 < length devs.old }
-    requires idle { All (λ d. D.held d ≡ []) devs.old }
+    devs: Vec<D>,
+) -> (Outcome, Vec<D>)
+    requires can { CanStart task.now (length devs.items) }
+    requires idle { All (λ d. D.held d ≡ []) devs.items }
     ensures job { S.tells → K.tells → (reading : Reading) → IsReading (S.left capture.old) reading
         → let now = devices_now D.limit D.sessions D.held D.room D.stalls D.stats D.log
-        in Job (Begins (settings_of task.now)) reading result (K.written out.old) (K.written out.new) (devs.new ≡ devs.old) (now devs.old) (now devs.new) }
-    ensures count { length devs.new ≡ length devs.old }
-    ensures others { drop 1 devs.new ≡ drop 1 devs.old }
-    ensures ended { S.tells → result.ending ≡ Ending.Done → S.left capture.new ≡ [] }
-    ensures stalled { result.ending ≡ Ending.Stalled
-        → let now = devices_now D.limit D.sessions D.held D.room D.stalls D.stats D.log in HaveStalledOut (now devs.old) (now devs.new) }
+        in Job (Begins (settings_of task.now)) reading result.0 (K.written out.old) (K.written out.new)
+        (λ n. drop n result.1.items ≡ drop n devs.items) (now devs.items) (now result.1.items) }
+    ensures count { length result.1.items ≡ length devs.items }
+    ensures few { result.0.devices ≤ length devs.items }
+    ensures others { let w = workers_of (dealing_of task.now.scheduler) in drop w result.1.items ≡ drop w devs.items }
+    ensures ended { S.tells → result.0.ending ≡ Ending.Done → S.left capture.new ≡ [] }
+    ensures stalled { result.0.ending ≡ Ending.Stalled
+        → let now = devices_now D.limit D.sessions D.held D.room D.stalls D.stats D.log
+        in HaveStalledOut (workers_of (dealing_of task.now.scheduler)) (now devs.items) (now result.1.items) }
     ensures read_later { S.faults capture.old ≤ S.faults capture.new }
-    ensures read_cause { result.ending ≡ Ending.ReadFault → Rose (S.faults capture.old) (S.faults capture.new) }
+    ensures read_cause { result.0.ending ≡ Ending.ReadFault → Rose (S.faults capture.old) (S.faults capture.new) }
     ensures write_later { K.faults out.old ≤ K.faults out.new }
-    ensures write_cause { result.ending ≡ Ending.WriteFault → Rose (K.faults out.old) (K.faults out.new) }
-    ensures write_steady { K.steady → ¬ (result.ending ≡ Ending.WriteFault) → K.faults out.new ≡ K.faults out.old }
-    ensures late { IsLate result.ending }
+    ensures write_cause { result.0.ending ≡ Ending.WriteFault → Rose (K.faults out.old) (K.faults out.new) }
+    ensures write_steady { K.steady → ¬ (result.0.ending ≡ Ending.WriteFault) → K.faults out.new ≡ K.faults out.old }
+    ensures late { IsLate result.0.ending }
 {
     match read_header(capture) {
         Ok(header) => process_packets(alloc, task, &header, capture, out, devs),
-        Err(stop) => without_packets(ending_of_stop(stop), false),
+        Err(stop) => (without_packets(ending_of_stop(stop), false, 0), devs),
     }
 }

@@ -141,16 +141,23 @@ fn expect_at_once(
 #[test]
 fn nothing_is_done_without_a_plan(rt: HostRuntime) -> Result<(), Fail> {
     let alloc = rt.alloc();
-    let vdev = "status=2 vdev at=0\n";
-    let other = [
-        "crypt",
-        "--vdev",
-        "mode=multi-core,worker=plain",
-        "--sessions",
-        "f",
+    let usage = "status=2 usage\n";
+    let texts = [
+        ("mode=multi-core,worker=plain", usage),
+        ("mode=round-robin,worker=plain,worker=plain", usage),
+        ("mode=multi-core,worker=plane", "status=2 vdev at=16\n"),
+        (
+            "mode=round-robin,worker=plain,threshold=5",
+            "status=2 vdev at=30\n",
+        ),
+        ("mode=fail-over,worker=plain", "status=2 vdev at=27\n"),
+        ("", "status=2 vdev at=0\n"),
     ];
-    expect_at_once(&rt, alloc, &other, SEALS, &[], vdev)?;
-    expect_at_once(&rt, alloc, &CRYPT[..1], SEALS, &[], "status=2 usage\n")?;
+    for (vdev, line) in texts {
+        let words = ["crypt", "--vdev", vdev, "--sessions", "f"];
+        expect_at_once(&rt, alloc, &words, SEALS, &[], line)?;
+    }
+    expect_at_once(&rt, alloc, &CRYPT[..1], SEALS, &[], usage)?;
     let fault = "status=5 read fault\n";
     expect_at_once(&rt, alloc, &CRYPT, SEALS, &[0], fault)?;
     expect_at_once(&rt, alloc, &CRYPT, SEALS, &[1], fault)?;
@@ -226,9 +233,8 @@ pub(super) fn head_of(length: u32) -> [u8; 16] {
     head
 }
 
-#[test]
-fn a_rule_chooses_among_usual_packets(rt: HostRuntime) -> Result<(), Fail> {
-    let alloc = rt.alloc();
+// Four packets, of which the first and the third are UDP.
+pub(super) fn usual_packets(alloc: Global) -> Result<Vec<u8>, Fail> {
     let mut capture = joined(alloc, &[&HEADER])?;
     for (length, protocol) in [(60, 17), (1514, 6), (98, 17), (342, 6)] {
         capture.extend_from_slice(&head_of(length))?;
@@ -236,6 +242,13 @@ fn a_rule_chooses_among_usual_packets(rt: HostRuntime) -> Result<(), Fail> {
             capture.push(if place == 23 { protocol } else { 0 })?;
         }
     }
+    Ok(capture)
+}
+
+#[test]
+fn a_rule_chooses_among_usual_packets(rt: HostRuntime) -> Result<(), Fail> {
+    let alloc = rt.alloc();
+    let capture = usual_packets(alloc)?;
     let run = crypt(alloc, &CRYPT[..5], BY_RULE, NOTHING, capture)?;
     let report =
         b"packets=4 success=2 auth_failed=0 invalid_args=0 short=0 passed=2\ndevice 0 operations=2\nstatus=0\n";

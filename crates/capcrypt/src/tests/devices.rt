@@ -55,7 +55,7 @@ fn crypt_over(
 }
 
 // A capture of so many packets of 60 bytes.
-fn packets(alloc: Global, number: u32) -> Result<Vec<u8>, Fail> {
+pub(super) fn packets(alloc: Global, number: u32) -> Result<Vec<u8>, Fail> {
     let mut capture = joined(alloc, &[&HEADER])?;
     for _n in 0..number {
         capture.extend_from_slice(&HEAD_OF_60)?;

@@ -83,14 +83,15 @@ fn run_unreported<S: Source, T: Source, K: Sink, D: Device<Card>>(
 }
 
 /// Does what the words behind the program's name ask for: reads the capture, makes an operation of each packet for
-/// which its plan has a session, sends the operations in bursts through the first device, writes the capture to
-/// `out` and a report to `report`. The plan is that of the session source, but `quick` has its own and leaves the source
-/// unread.
+/// which its plan has a session, sends the operations in bursts through the devices, writes the capture to `out` and a
+/// report to `report`. `crypt` has the plan of the session source, and deals the operations to as many devices as its
+/// scheduler text names workers, by the text's mode. `quick` has a plan of its own, uses the first device alone, and
+/// leaves the source unread.
 ///
 /// There are one to eight devices, none of which holds anything. The status is 0 where all was done, 1
 /// where memory was wanting, 2 where the words aren't legal, 3 where the capture isn't whole, 4 where the session text
-/// has a faulty line, 5 at a fault of a source, 6 at a fault of a sink, 7 where the device stalled in all the turns that
-/// a run may have, and 8 where a record or the session text passes a limit.
+/// has a faulty line, 5 at a fault of a source, 6 at a fault of a sink, 7 where the used devices stalled in all the turns
+/// that a run may have, and 8 where a record or the session text passes a limit.
 pub fn run<S: Source, T: Source, K: Sink, E: Sink, D: Device<Card>>(
     alloc: Global,
     words: &[String],

@@ -1,12 +1,13 @@
-//! What a driver is offered.
+//! What a driver is offered, and a window by itself.
 ghost use Rattle.std.specs.Prelude.{◌≡◌, ◌+◌, ◌-◌, ◌<◌, ◌≤◌, min, length, map, take, Some, None};
 ghost use Rattle.crypto_op.specs.Op.{entry_of};
 ghost use Rattle.dev_core.specs.Burst.{rest_of, with_ops};
 
-use crate::{FlowEnd, transfer};
-use capture_io::{Header, MemSink, MemSource};
+use crate::{FlowEnd, Window, transfer};
+use capture_io::{Header, MemSink, MemSource, ReadStop};
 use crypto_op::{Card, OpBurst};
 use dev_core::{Driver, Stats};
+use mbuf_chain::FreshSegs;
 use packet_plan::ReadyPlan;
 use session_file::parse;
 use std::alloc::Global;
@@ -172,5 +173,29 @@ fn operations_are_numbered_without_the_packets_that_pass(rt: HostRuntime) -> Res
         assert_eq!(rt; (op.spec().pos, op.cargo().packet), (pos, packet));
     }
     assert_eq!(rt; kept.len(), 0);
+    Ok(())
+}
+
+#[test]
+fn a_window_gives_each_packet_once_with_its_number(rt: HostRuntime) -> Result<(), Fail> {
+    let alloc = rt.alloc();
+    let mut src = MemSource::new(records(alloc, &[5, 6, 7])?, 1000, Vec::new(alloc));
+    let mut store = FreshSegs::new(alloc);
+    let mut window = Window::new(alloc);
+    let Some(stop) = window.read(alloc, &mut src, &HEADER, &mut store, 4) else {
+        return Err("it reads on".into());
+    };
+    assert_eq!(rt; stop, ReadStop::End);
+    for number in 0..3 {
+        let packet = window.take().ok_or("no packet")?;
+        assert_eq!(rt; packet.number, number);
+        let mut byte = [0];
+        if packet.rec.packet.len() != byte.len() {
+            return Err("not one byte".into());
+        }
+        packet.rec.packet.read_at(0, &mut byte);
+        assert_eq!(rt; u32::from(byte[0]), number + 5);
+    }
+    assert!(rt; window.take().is_none());
     Ok(())
 }

@@ -9,6 +9,8 @@
 //! | [`Topped`] | one thread | makes a fresh one |
 //! | [`Pool`] | many threads, each with a [`SegPass`] | makes a fresh one, which the pass counts |
 //!
+//! The proved test `two_threads_share_a_pool` is a caller. On one thread:
+//!
 //! ```text
 //! let (pool, mut pass) = Pool::open(&rt, alloc, 64)?;
 //! let mut theirs = pass.split(&pool);                  // for another thread

@@ -29,6 +29,7 @@ impl Model for Topped {
 }
 
 impl Topped {
+    /// A store over a pool, whatever is left in it.
     pub fn new(alloc: Global, pool: LocalPool) -> Topped
         ensures { result ≡ pool }
     {

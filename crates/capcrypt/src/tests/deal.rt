@@ -168,7 +168,7 @@ fn logging(alloc: Global) -> Result<Vec<LogDriver<PlainDriver<Card>>>, Fail>
     ensures idle { IfOk result (λ v. All (λ d. held_of (logged_of d) ≡ []) v.items) }
 {
     let mut devs = Vec::new(alloc);
-    for _n in 0..4 {
+    for _n in 0..4usize {
         devs.push(LogDriver::new(alloc, PlainDriver::new(alloc)?, 65)?)?;
     }
     Ok(devs)

@@ -102,12 +102,12 @@ impl<D: Device<Card>> Device<Card> for Noting<D> {
     }
 }
 
-fn noting(alloc: Global) -> Result<Vec<Noting<PlainDriver<Card>>>, Fail>
+fn four_devices(alloc: Global) -> Result<Vec<Noting<PlainDriver<Card>>>, Fail>
     ensures four { IfOk result (λ v. length v.items ≡ 4) }
     ensures idle { IfOk result (λ v. All (λ d. held_of d.inner ≡ []) v.items) }
 {
     let mut devs = Vec::new(alloc);
-    for _n in 0..4 {
+    for _n in 0..4usize {
         let inner = PlainDriver::new(alloc)?;
         devs.push(Noting { inner, kind: None })?;
     }
@@ -124,7 +124,7 @@ fn each_device_is_set_up_with_its_kind(rt: HostRuntime) -> Result<(), Fail> {
         "--sessions",
         "f",
     ];
-    let devs = noting(alloc)?;
+    let devs = four_devices(alloc)?;
     let run = run_in_memory(
         alloc,
         &words,

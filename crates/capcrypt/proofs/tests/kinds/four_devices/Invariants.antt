@@ -1,7 +1,7 @@
 use Rattle.std.proofs.Common.{◌≡◌, [], length}
 use Rattle.std.specs.List.{All}
 use Rattle.sym_engine.specs.Driver.{held_of}
-use Rattle.capcrypt.proofs.tests.kinds.noting.Given as goal
+use Rattle.capcrypt.proofs.tests.kinds.four_devices.Given as goal
 
 abbrev pub invariant-loop-n : goal.invariant-loop-n
 invariant-loop-n l = record {

@@ -102,14 +102,20 @@ impl<D: Device<Card>> Device<Card> for Noting<D> {
     }
 }
 
+fn unnoted(alloc: Global) -> Result<Noting<PlainDriver<Card>>, Fail>
+    ensures { IfOk result (λ d. held_of d.inner ≡ []) }
+{
+    let inner = PlainDriver::new(alloc)?;
+    Ok(Noting { inner, kind: None })
+}
+
 fn four_devices(alloc: Global) -> Result<Vec<Noting<PlainDriver<Card>>>, Fail>
     ensures four { IfOk result (λ v. length v.items ≡ 4) }
     ensures idle { IfOk result (λ v. All (λ d. held_of d.inner ≡ []) v.items) }
 {
     let mut devs = Vec::new(alloc);
     for _n in 0..4usize {
-        let inner = PlainDriver::new(alloc)?;
-        devs.push(Noting { inner, kind: None })?;
+        devs.push(unnoted(alloc)?)?;
     }
     Ok(devs)
 }

@@ -44,7 +44,8 @@ hash_word Sha512 = codes "hmac-sha512"
 unfoldable pub xform_text : List ℕ → Xform → List ℕ
 xform_text salt (Cipher alg dir key) = spaced (alg_word alg) ++ spaced (dir_word dir) ++ spaced (encode_lower key) ++ spaced (encode_lower salt)
 xform_text salt (Aead dir key tag_len aad_len) =
-    spaced (codes "gcm") ++ spaced (dir_word dir) ++ spaced (encode_lower key) ++ spaced (encode_lower salt) ++ spaced (decimal tag_len) ++ spaced (decimal aad_len)
+    spaced (codes "gcm") ++ spaced (dir_word dir) ++ spaced (encode_lower key) ++ spaced (encode_lower salt)
+    ++ spaced (decimal tag_len) ++ spaced (decimal aad_len)
 xform_text salt (Auth hash act key digest_len) = spaced (hash_word hash) ++ spaced (act_word act) ++ spaced (encode_lower key) ++ spaced (decimal digest_len)
 
 -- X or X + X (no session has more)
@@ -71,4 +72,5 @@ default_text sessions choice = codes "default" ++ choice_text sessions choice ++
 
 -- the text of a plan
 unfoldable pub spelling : Plan → List ℕ
-spelling plan = codes "capcrypt 1\n" ++ flat_map session_text plan.sessions ++ flat_map (rule_text plan.sessions) plan.rules ++ default_text plan.sessions plan.otherwise
+spelling plan = codes "capcrypt 1\n" ++ flat_map session_text plan.sessions ++ flat_map (rule_text plan.sessions) plan.rules
+    ++ default_text plan.sessions plan.otherwise

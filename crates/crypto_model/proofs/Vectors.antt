@@ -6,7 +6,7 @@ use Rattle.crypto_model.specs.Block.{block}
 use Rattle.crypto_model.specs.Field.{product, remainder, times, inverse_below, inverse, of_bits, sub_byte}
 use Rattle.crypto_model.specs.Aes.{listed, sub_bytes, shift_rows, mix_columns, add_round_key, power, word_of, rot_word, sub_word, xor_words, temp, next_word, schedule, expanded, rounds, cipher_with, cipher, unsub_below, inverse_sub_bytes, inverse_shift_rows, inverse_mix_columns, inverse_rounds, inverse_cipher_with, inverse_cipher}
 use Rattle.crypto_model.specs.Modes.{xor_with, cut, blocks, counter_of, counter_block, ctr_from, ctr, cbc_encrypt_from, cbc_encrypt, cbc_decrypt_from, cbc_decrypt}
-use Rattle.crypto_model.specs.Gcm.{bits_of, number_of, bytes_of, times_x, block_product, ghash_from, filled, hashed, gctr_from, gcm_text, gcm_tag}
+use Rattle.crypto_model.specs.Gcm.{bits_of, number_of, bytes_of, times_x, block_product, ghash_from, padded, hashed, gctr_from, gcm_text, gcm_tag}
 
 pub aes_128_vector : cipher (range_with_len 0 16) (block 0x00112233445566778899aabbccddeeff) ≡ block 0x69c4e0d86a7b0430d8cdb78070b4c55a
 unfolding product remainder times inverse_below inverse of_bits sub_byte listed sub_bytes shift_rows mix_columns add_round_key power word_of rot_word sub_word xor_words temp next_word schedule expanded rounds cipher_with cipher
@@ -54,11 +54,11 @@ unfolding product remainder times inverse_below inverse of_bits sub_byte listed 
 ctr_carry_vector = refl
 
 pub gcm_empty_vector : gcm_tag (cipher (replicate 16 0)) (replicate 12 0) [] [] ≡ block 0x58e2fccefa7e3061367f1d57a4e7455a
-unfolding product remainder times inverse_below inverse of_bits sub_byte listed sub_bytes shift_rows mix_columns add_round_key power word_of rot_word sub_word xor_words temp next_word schedule expanded rounds cipher_with cipher xor_with cut blocks bits_of number_of bytes_of times_x block_product ghash_from filled hashed gcm_tag
+unfolding product remainder times inverse_below inverse of_bits sub_byte listed sub_bytes shift_rows mix_columns add_round_key power word_of rot_word sub_word xor_words temp next_word schedule expanded rounds cipher_with cipher xor_with cut blocks bits_of number_of bytes_of times_x block_product ghash_from padded hashed gcm_tag
 gcm_empty_vector = refl
 
 pub gcm_data_vector : gcm_tag (cipher (replicate 16 0)) (replicate 12 0) (range_with_len 0 20) [] ≡ block 0x6cb71d8230f1c75a6bbc9f23ad201c0b
-unfolding product remainder times inverse_below inverse of_bits sub_byte listed sub_bytes shift_rows mix_columns add_round_key power word_of rot_word sub_word xor_words temp next_word schedule expanded rounds cipher_with cipher xor_with cut blocks bits_of number_of bytes_of times_x block_product ghash_from filled hashed gcm_tag
+unfolding product remainder times inverse_below inverse of_bits sub_byte listed sub_bytes shift_rows mix_columns add_round_key power word_of rot_word sub_word xor_words temp next_word schedule expanded rounds cipher_with cipher xor_with cut blocks bits_of number_of bytes_of times_x block_product ghash_from padded hashed gcm_tag
 gcm_data_vector = refl
 
 pub gcm_text_vector : gcm_text (cipher (replicate 16 0)) (replicate 12 0) (replicate 16 0) ≡ block 0x0388dace60b6a392f328c2b971b2fe78
@@ -66,5 +66,5 @@ unfolding product remainder times inverse_below inverse of_bits sub_byte listed 
 gcm_text_vector = refl
 
 pub gcm_tag_vector : gcm_tag (cipher (replicate 16 0)) (replicate 12 0) [] (block 0x0388dace60b6a392f328c2b971b2fe78) ≡ block 0xab6e47d42cec13bdf53a67b21257bddf
-unfolding product remainder times inverse_below inverse of_bits sub_byte listed sub_bytes shift_rows mix_columns add_round_key power word_of rot_word sub_word xor_words temp next_word schedule expanded rounds cipher_with cipher xor_with cut blocks bits_of number_of bytes_of times_x block_product ghash_from filled hashed gcm_tag
+unfolding product remainder times inverse_below inverse of_bits sub_byte listed sub_bytes shift_rows mix_columns add_round_key power word_of rot_word sub_word xor_words temp next_word schedule expanded rounds cipher_with cipher xor_with cut blocks bits_of number_of bytes_of times_x block_product ghash_from padded hashed gcm_tag
 gcm_tag_vector = refl

@@ -42,21 +42,21 @@ ghash_from h y [] = y
 ghash_from h y (block ∷ more) = ghash_from h (block_product (xor_with y (bits_of block)) h) more
 
 -- with zeros up to whole blocks
-unfoldable pub filled : List ℕ → List ℕ
-filled xs = xs ++ replicate ((length xs + 15) / 16 * 16 - length xs) 0
+unfoldable pub padded : List ℕ → List ℕ
+padded xs = xs ++ replicate ((length xs + 15) / 16 * 16 - length xs) 0
 
 -- what the tag hashes: the data that is only authenticated, the ciphertext, and their lengths in bits
 unfoldable pub hashed : List ℕ → List ℕ → List (List ℕ)
-hashed aad text = blocks (filled aad ++ filled text ++ to_be_bytes w64 (length aad * 8) ++ to_be_bytes w64 (length text * 8))
+hashed aad text = blocks (padded aad ++ padded text ++ to_be_bytes w64 (length aad * 8) ++ to_be_bytes w64 (length text * 8))
 
 -- counter block n of an IV of 12 bytes (7.1, 6.2)
-abbrev pub counter_block : List ℕ → ℕ → List ℕ
-counter_block iv n = iv ++ to_be_bytes w32 (n % 2 ^ 32)
+abbrev pub iv_block : List ℕ → ℕ → List ℕ
+iv_block iv n = iv ++ to_be_bytes w32 (n % 2 ^ 32)
 
 -- the text under counter blocks n, n + 1, … (6.5)
 unfoldable pub gctr_from : (List ℕ → List ℕ) → List ℕ → ℕ → List (List ℕ) → List ℕ
 gctr_from e iv n [] = []
-gctr_from e iv n (block ∷ more) = xor_with block (e (counter_block iv n)) ++ gctr_from e iv (n + 1) more
+gctr_from e iv n (block ∷ more) = xor_with block (e (iv_block iv n)) ++ gctr_from e iv (n + 1) more
 
 -- the ciphertext of a text, or the text of a ciphertext (7.1, 7.2)
 unfoldable pub gcm_text : (List ℕ → List ℕ) → List ℕ → List ℕ → List ℕ
@@ -66,6 +66,6 @@ gcm_text e iv text = gctr_from e iv 2 (blocks text)
 unfoldable pub gcm_tag : (List ℕ → List ℕ) → List ℕ → List ℕ → List ℕ → List ℕ
 gcm_tag e iv aad text =
     let h = bits_of (e (replicate 16 0)) in
-    let j0 = counter_block iv 1 in
+    let j0 = iv_block iv 1 in
     let s = ghash_from h (replicate 128 0) (hashed aad text) in
     xor_with (bytes_of s) (e j0)

@@ -6,7 +6,7 @@ use Rattle.std.proofs.Math.Seq.{take-add}
 use borrow.Rule.Slice.PartMut.{put_mid}
 use Rattle.crypto_model.specs.Aes.{cipher}
 use Rattle.crypto_model.specs.Modes.{xor_with}
-use Rattle.crypto_model.specs.Gcm.{counter_block, gcm_text}
+use Rattle.crypto_model.specs.Gcm.{iv_block, gcm_text}
 use Rattle.gcm_core.specs.declared.stream.KeyStream.{KeyStream}
 use Rattle.gcm_core.specs.Streaming.{key_stream, unused, IsFed, Feeds}
 use Rattle.gcm_core.proofs.HashedText.{length-cipher}
@@ -84,7 +84,7 @@ feeds_four a b piece out same same_iv step full long full' long' whole is =
 
 -- a new block of key stream
 pub feeds_fresh : (a b : KeyStream) → b.key.now ≡ a.key.now → b.iv ≡ a.iv → b.counter ≡ (a.counter + 1) % 2 ^ 32 → a.used ≡ 16 → length a.stream ≡ 16
-    → b.used ≡ 0 → b.stream ≡ cipher a.key.now (counter_block a.iv a.counter) → Feeds a b [] []
+    → b.used ≡ 0 → b.stream ≡ cipher a.key.now (iv_block a.iv a.counter) → Feeds a b [] []
 feeds_fresh a b same same_iv step full long fresh is =
     feeds a b 1 [] [] same same_iv (λ _. step) (omega arith) (rw (fresh, is, used_up a full long) (sym (key_stream-one (cipher a.key.now) a.iv a.counter)))
     (sym (nothing-xor_with (unused a ++ key_stream (cipher a.key.now) a.iv a.counter 1)))

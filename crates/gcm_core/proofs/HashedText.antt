@@ -7,7 +7,7 @@ use Rattle.std.proofs.lemmas.Slice.{drop-put_mid, take-put_mid}
 use borrow.Rule.Slice.PartMut.{put_mid}
 use Rattle.crypto_model.specs.Aes.{cipher, cipher_with, add_round_key, listed}
 use Rattle.crypto_model.specs.Modes.{xor_with, cut, blocks}
-use Rattle.crypto_model.specs.Gcm.{bits_128, bits_of, block_product, filled, ghash_from}
+use Rattle.crypto_model.specs.Gcm.{bits_128, bits_of, block_product, padded, ghash_from}
 use Rattle.crypto_model.proofs.BlockBits.{bits_128-xor, bits_128-zero}
 use Rattle.gcm_core.specs.Subkey.{subkey}
 use Rattle.gcm_core.specs.Hashing.{IsHashed}
@@ -124,8 +124,8 @@ held_is key text s long h =
     omega (arith, ap length h.parts, length-append h.front (take s.held s.block), length-take s.held s.block, h.whole, s.within)
 
 -- zeros behind the text
-pub filled_is : (text : List ℕ) (held left : ℕ) → held ≡ length text % 16 → left ≡ (16 - held) % 16 → text ++ take left (replicate 16 0) ≡ filled text
-unfolding filled
+pub filled_is : (text : List ℕ) (held left : ℕ) → held ≡ length text % 16 → left ≡ (16 - held) % 16 → text ++ take left (replicate 16 0) ≡ padded text
+unfolding padded
 filled_is text held left held_is left_is =
     let count : left ≡ (length text + 15) / 16 * 16 - length text = omega arith in
     rw (take-replicate {X = ℕ} left 16 0 (omega arith), count) refl

@@ -1,13 +1,13 @@
 -- The key stream over a text that comes in pieces.
 use Rattle.std.specs.Prelude.{◌≡◌, ℕ, zero, suc, ◌+◌, ◌*◌, ◌%◌, ◌^◌, ◌≤◌, List, [], ◌++◌, length, drop}
 use Rattle.crypto_model.specs.Aes.{cipher}
-use Rattle.crypto_model.specs.Gcm.{counter_block, gcm_text}
+use Rattle.crypto_model.specs.Gcm.{iv_block, gcm_text}
 use Rattle.gcm_core.specs.declared.stream.KeyStream.{KeyStream}
 
 -- k blocks of key stream from counter block n on
 unfoldable pub key_stream : (List ℕ → List ℕ) → List ℕ → ℕ → ℕ → List ℕ
 key_stream e iv n zero = []
-key_stream e iv n (suc k) = e (counter_block iv n) ++ key_stream e iv (n + 1) k
+key_stream e iv n (suc k) = e (iv_block iv n) ++ key_stream e iv (n + 1) k
 
 -- the bytes of the last block's key stream that no text has used
 abbrev pub unused : KeyStream → List ℕ

@@ -1,7 +1,7 @@
 //! GHASH of a text that comes in pieces.
 ghost use Rattle.std.specs.Prelude.{◌≡◌, ◌≤◌, ◌<◌, ◌+◌, ◌%◌, ◌++◌, [], List, ℕ, length, replicate};
 ghost use Rattle.crypto_model.specs.Modes.{blocks};
-ghost use Rattle.crypto_model.specs.Gcm.{bytes_of, filled, ghash_from};
+ghost use Rattle.crypto_model.specs.Gcm.{bytes_of, padded, ghash_from};
 ghost use Rattle.gcm_core.specs.Subkey.{subkey};
 
 use crate::blocks::block;
@@ -65,7 +65,7 @@ impl<'a> Ghash<'a> {
 
     /// Takes in zeros up to a whole block.
     pub(crate) fn fill(&mut self)
-        ensures { (key text : List ℕ) → IsHashed key self.old text → IsHashed key self.new (filled text) }
+        ensures { (key text : List ℕ) → IsHashed key self.old text → IsHashed key self.new (padded text) }
     {
         let left = (16 - self.held) % 16;
         self.hold(&[0; 16][..left]);

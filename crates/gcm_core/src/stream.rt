@@ -1,7 +1,7 @@
 //! The key stream.
 ghost use Rattle.std.specs.Prelude.{◌≡◌, ◌<◌, ◌≤◌, ◌+◌, ◌%◌, ◌^◌, ◌++◌, List, [], ℕ, length};
 ghost use Rattle.crypto_model.specs.Aes.{cipher};
-ghost use Rattle.crypto_model.specs.Gcm.{counter_block, gcm_text};
+ghost use Rattle.crypto_model.specs.Gcm.{iv_block, gcm_text};
 
 use crate::xor::{xor_bytes, xor_four};
 use aes_core::{Key, encrypt, encrypt_four};
@@ -21,8 +21,8 @@ pub(crate) struct KeyStream<'a> {
 }
 
 #[inline(always)]
-fn counter_block(iv: &[u8; 12], counter: u32) -> [u8; 16]
-    ensures { result ≡ counter_block iv.now counter }
+fn iv_block(iv: &[u8; 12], counter: u32) -> [u8; 16]
+    ensures { result ≡ iv_block iv.now counter }
 {
     let [a, b, c, d] = counter.to_be_bytes();
     [
@@ -33,9 +33,9 @@ fn counter_block(iv: &[u8; 12], counter: u32) -> [u8; 16]
 
 #[inline(always)]
 fn counter_lanes(iv: &[u8; 12], counter: u32) -> u8x16
-    ensures { result ≡ counter_block iv.now counter }
+    ensures { result ≡ iv_block iv.now counter }
 {
-    u8x16::from_array(counter_block(iv, counter))
+    u8x16::from_array(iv_block(iv, counter))
 }
 
 impl<'a> KeyStream<'a> {
@@ -44,7 +44,7 @@ impl<'a> KeyStream<'a> {
     /// The key stream, and the block before it, which the tag is hidden under.
     pub(crate) fn begin(key: &'a Key, iv: [u8; 12]) -> (KeyStream<'a>, [u8; 16])
         ensures stream { IsFed key.now iv result.0 [] }
-        ensures mask { result.1 ≡ cipher key.now (counter_block iv 1) }
+        ensures mask { result.1 ≡ cipher key.now (iv_block iv 1) }
     {
         let mut stream = KeyStream {
             key,
@@ -140,10 +140,10 @@ impl<'a> KeyStream<'a> {
     }
 
     fn next_block(&mut self) -> [u8; 16]
-        ensures stream { result ≡ cipher self.old.key.now (counter_block self.old.iv self.old.counter) }
+        ensures stream { result ≡ cipher self.old.key.now (iv_block self.old.iv self.old.counter) }
         ensures step { self.new ≡ record self.old { counter = (self.old.counter + 1) % 2 ^ 32 } }
     {
-        let mut block = counter_block(&self.iv, self.counter);
+        let mut block = iv_block(&self.iv, self.counter);
         encrypt(self.key, &mut block);
         self.counter = self.counter.wrapping_add(1);
         block

@@ -1,7 +1,7 @@
 //! The tag of a ciphertext that comes in pieces.
 ghost use Rattle.std.specs.Prelude.{◌≡◌, ◌++◌, [], List, ℕ};
 ghost use Rattle.crypto_model.specs.Aes.{cipher};
-ghost use Rattle.crypto_model.specs.Gcm.{counter_block, gcm_tag};
+ghost use Rattle.crypto_model.specs.Gcm.{iv_block, gcm_tag};
 
 use crate::hash::Ghash;
 use crate::key::GcmKey;
@@ -24,7 +24,7 @@ impl<'a> TagState<'a> {
 
     /// Begun with the block that the tag is hidden under.
     pub(crate) fn new(key: &'a GcmKey, mask: [u8; 16], aad: &[u8]) -> TagState<'a>
-        ensures { (iv : List ℕ) → mask ≡ cipher key.now (counter_block iv 1) → IsTagging key.now iv aad.now result [] }
+        ensures { (iv : List ℕ) → mask ≡ cipher key.now (iv_block iv 1) → IsTagging key.now iv aad.now result [] }
     {
         let mut hash = Ghash::new(key);
         hash.feed(aad);

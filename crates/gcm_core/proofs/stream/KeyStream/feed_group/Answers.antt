@@ -2,7 +2,7 @@ use Rattle.std.proofs.Common.{◌≡◌, ◌+◌, ◌++◌, ◌∙◌, ap, sym, 
 use Rattle.crypto_model.specs.Aes.{cipher}
 use Rattle.crypto_model.specs.Modes.{xor_with}
 use Rattle.gcm_core.specs.Streaming.{key_stream}
-use Rattle.gcm_core.proofs.KeyStreams.{counter_block-round, key_stream-four}
+use Rattle.gcm_core.proofs.KeyStreams.{iv_block-round, key_stream-four}
 use Rattle.gcm_core.proofs.FedPieces.{feeds_four}
 use Rattle.gcm_core.proofs.stream.KeyStream.feed_group.Goals as goal
 
@@ -23,9 +23,9 @@ returns-clause-fed c =
       c.counter_lanes-2.ensures,
       c.counter_lanes-3.ensures,
       c.counter_lanes-4.ensures,
-      counter_block-round state.iv (t + 1),
-      counter_block-round state.iv (t + 2),
-      counter_block-round state.iv (t + 3),
+      iv_block-round state.iv (t + 1),
+      iv_block-round state.iv (t + 2),
+      iv_block-round state.iv (t + 3),
     ) (sym (key_stream-four e state.iv t)) in
     feeds_four state _ c.args.group.now _ refl refl refl c.requires.used_up long c.requires.used_up long c.requires.whole
     (c.xor_four.ensures ∙ ap (xor_with c.args.group.now) stream)

@@ -25,10 +25,15 @@ unfoldable pub inverse_norm : ℕ → ℕ
 inverse_norm x = raised (norm x) 14
 
 abbrev pub forms : List (ℕ → ℕ)
-forms = chosen 0x01 ∷ chosen 0x61 ∷ chosen 0xe1 ∷ chosen 0xe7 ∷ chosen 0x71 ∷ chosen 0x63 ∷ chosen 0x9b ∷ chosen 0x4f ∷ chosen 0x84 ∷ chosen 0x90 ∷ chosen 0xfa ∷ chosen 0x4e ∷ chosen 0x96 ∷ chosen 0x82 ∷ chosen 0x14 ∷ chosen 0x9a ∷ chosen 0x2e ∷ chosen 0xb4 ∷ chosen 0xae ∷ chosen 0x7e ∷ chosen 0xde ∷ chosen 0xac ∷ []
+forms =
+    chosen 0x01 ∷ chosen 0x61 ∷ chosen 0xe1 ∷ chosen 0xe7 ∷ chosen 0x71 ∷ chosen 0x63 ∷ chosen 0x9b ∷ chosen 0x4f ∷
+    chosen 0x84 ∷ chosen 0x90 ∷ chosen 0xfa ∷ chosen 0x4e ∷ chosen 0x96 ∷ chosen 0x82 ∷ chosen 0x14 ∷ chosen 0x9a ∷
+    chosen 0x2e ∷ chosen 0xb4 ∷ chosen 0xae ∷ chosen 0x7e ∷ chosen 0xde ∷ chosen 0xac ∷ []
 
 abbrev pub norms : List (ℕ → ℕ)
 norms = (λ x. chosen 0x35 (norm x)) ∷ (λ x. chosen 0x01 (norm x)) ∷ (λ x. chosen 0x11 (norm x)) ∷ (λ x. chosen 0x31 (norm x)) ∷ []
 
 abbrev pub inverses : List (ℕ → ℕ)
-inverses = (λ x. chosen 0x31 (inverse_norm x)) ∷ (λ x. chosen 0x01 (inverse_norm x)) ∷ (λ x. chosen 0x35 (inverse_norm x)) ∷ (λ x. chosen 0x11 (inverse_norm x)) ∷ []
+inverses =
+    (λ x. chosen 0x31 (inverse_norm x)) ∷ (λ x. chosen 0x01 (inverse_norm x)) ∷ (λ x. chosen 0x35 (inverse_norm x)) ∷
+    (λ x. chosen 0x11 (inverse_norm x)) ∷ []

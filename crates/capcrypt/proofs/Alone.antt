@@ -13,7 +13,7 @@ use Rattle.sched_modes.specs.Dealing.{IsFrontOf}
 use Rattle.capcrypt.specs.declared.ending.Ending.{Ending}
 use Rattle.capcrypt.specs.Dealing.{Alone, dealing_of}
 use Rattle.capcrypt.specs.Devices.{DeviceNow, HasStalledOut, HaveStalledOut, at, taken_together}
-use Rattle.capcrypt.specs.Served.{HasServed, HaveServed, IsReady}
+use Rattle.capcrypt.specs.Served.{HasServed, HaveServed, WasSetUp}
 use Rattle.capcrypt.specs.Ran.{IsDecided, IsDriven}
 
 -- a driver whose room is told says what it admits, and where that is nothing it holds something
@@ -54,7 +54,7 @@ module _ (plan : Plan) (burst : ℕ) (ops : List LogEntry) (e : Ending) (past : 
   counted = omega (arith, drv.enqueued_is, drv.few, short_front ops drv.taken drv.front)
 
   -- the first of some devices was made ready, and took what the calls gave
-  pub first_served : IsReady plan b mid → d.depth ≡ 128 → d.sessions ≡ sessions_of plan
+  pub first_served : WasSetUp plan b mid → d.depth ≡ 128 → d.sessions ≡ sessions_of plan
       → HaveServed (record { plan = plan; burst = burst; dealing = Alone }) ops (b ∷ bs) (d ∷ ds)
   first_served ready depth sessions = record {
     given = λ k. drv.taken;
@@ -70,7 +70,7 @@ module _ (plan : Plan) (burst : ℕ) (ops : List LogEntry) (e : Ending) (past : 
 
 -- the same, where the devices stand in a list
 module _ {D : Type 0} (f : D → DeviceNow) (plan : Plan) (burst : ℕ) (ops : List LogEntry) (e : Ending) (past : List Call) (x mid d : D) where
-  pub alone_served : (xs : List D) → 0 < length xs → IsDriven burst ops e past (f d).enqueued (f mid).log (f d).log → IsReady plan (f (get_or xs 0 x)) (f mid) → (f d).depth ≡ 128
+  pub alone_served : (xs : List D) → 0 < length xs → IsDriven burst ops e past (f d).enqueued (f mid).log (f d).log → WasSetUp plan (f (get_or xs 0 x)) (f mid) → (f d).depth ≡ 128
       → (f d).sessions ≡ sessions_of plan → HaveServed (record { plan = plan; burst = burst; dealing = Alone }) ops (map f xs) (map f (set (set xs 0 mid) 0 d))
   alone_served [] some drv ready depth sessions = absurd (omega (arith, some))
   alone_served (y ∷ ys) some drv ready depth sessions = first_served plan burst ops e past (f y) (f mid) (f d) (map f ys) (map f ys) drv ready depth sessions

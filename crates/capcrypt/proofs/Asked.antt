@@ -1,7 +1,7 @@
 -- The words name no more workers than there are devices.
 use Rattle.std.proofs.Common.{◌≡◌, ℕ, Bool, true, false, ◌≤◌, List, [], ◌∷◌, Option, None, Some, refl, ap, sym, subst, ◌∙◌, arith}
 use Rattle.std.specs.Prelude.{Result, Ok, Err, nat_le, ◌&&◌, bytes_eq, codes, if◌then◌else◌}
-use Rattle.command_words.specs.Asked.{Asked, AsksCrypt, AsksQuick, Fault, NotLegal, BadText, asked, quick_asked, quick_with, with_values, with_burst, with_scheduler, is_on_one_thread, burst_of}
+use Rattle.command_words.specs.Asked.{Wanted, AsksCrypt, AsksQuick, Fault, NotLegal, BadText, wanted, quick_asked, quick_with, with_values, with_burst, with_scheduler, is_on_one_thread, burst_of}
 use Rattle.command_words.specs.Quick.{key_of, salt_of}
 use Rattle.command_words.specs.Options.{Values, values_of}
 use Rattle.sched_core.specs.Mode.{least_workers}
@@ -11,7 +11,7 @@ use Rattle.sched_core.specs.Text.{sched_of}
 use Rattle.sched_core.specs.declared.text.SchedText.{SchedText}
 
 -- these words ask for no more workers than this
-abbrev HasFew : ℕ → Result Asked Fault → Type 0
+abbrev HasFew : ℕ → Result Wanted Fault → Type 0
 HasFew devices r = (text : SchedText) (sessions : List ℕ) (burst : ℕ) → r ≡ Ok (AsksCrypt text sessions burst) → text.workers ≤ devices
 
 few_where : (devices : ℕ) (b : Bool) (text : SchedText) (sessions : List ℕ) (burst : ℕ) → (b ≡ true → text.workers ≤ devices) → HasFew devices (if b then Ok (AsksCrypt text sessions burst) else Err NotLegal)
@@ -51,8 +51,8 @@ few_first true crypt rest all devices t s n is = few_quick rest devices t s n is
 few_first false true rest all devices t s n is = few_values (values_of all) devices t s n is
 few_first false false rest all devices t s n is = absurd (let no : Err NotLegal ≡ Ok (AsksCrypt t s n) = is in cc)
 
-pub few_workers : (words : List (List ℕ)) (devices : ℕ) (text : SchedText) (sessions : List ℕ) (burst : ℕ) → asked words devices ≡ Ok (AsksCrypt text sessions burst) → text.workers ≤ devices
-unfolding asked
+pub few_workers : (words : List (List ℕ)) (devices : ℕ) (text : SchedText) (sessions : List ℕ) (burst : ℕ) → wanted words devices ≡ Ok (AsksCrypt text sessions burst) → text.workers ≤ devices
+unfolding wanted
 few_workers [] devices t s n is = absurd (let no : Err NotLegal ≡ Ok (AsksCrypt t s n) = is in cc)
 few_workers (word ∷ rest) devices t s n is = few_first (bytes_eq word (codes "quick")) (bytes_eq word (codes "crypt")) rest (word ∷ rest) devices t s n is
 

@@ -35,7 +35,7 @@ use Rattle.capcrypt.specs.declared.ending.Ending.{Ending}
 use Rattle.capcrypt.specs.Dealing.{Scheduled, scheduler_of}
 use Rattle.capcrypt.specs.Devices.{DeviceNow, HasStalledOut, HaveStalledOut, NoneRose, at, device_now, stalled_together, taken_together}
 use Rattle.capcrypt.specs.Ran.{IsDecided, IsDriven}
-use Rattle.capcrypt.specs.Served.{AreReady, HasServed, HaveServed, IsReady}
+use Rattle.capcrypt.specs.Served.{WereSetUp, HasServed, HaveServed, WasSetUp}
 use Rattle.capcrypt.proofs.Alone.{told_since}
 use Rattle.capcrypt.proofs.Limits.{numbered_again}
 
@@ -46,16 +46,16 @@ at_map f (x ∷ xs) zero d below = refl
 at_map f (x ∷ xs) (suc k) d below = at_map f xs k d (omega (arith, below))
 
 -- what is so of each device of a front is so of its plain data
-pub ready_at : {D : Type 0} (f : D → DeviceNow) (plan : Plan) (n : ℕ) (devs mid : List D) → n ≤ length devs → length mid ≡ length devs → AreReady f plan n devs mid
-    → (k : ℕ) → k < n → IsReady plan (at (map f devs) k) (at (map f mid) k)
+pub ready_at : {D : Type 0} (f : D → DeviceNow) (plan : Plan) (n : ℕ) (devs mid : List D) → n ≤ length devs → length mid ≡ length devs → WereSetUp f plan n devs mid
+    → (k : ℕ) → k < n → WasSetUp plan (at (map f devs) k) (at (map f mid) k)
 ready_at f plan n devs mid within count ready k lt =
     let d = (some_at devs k (omega (arith, lt, within))).0 in
-    subst (λ (x : DeviceNow). IsReady plan x (at (map f mid) k)) (sym (at_map f devs k d (omega (arith, lt, within))))
-    (subst (IsReady plan (f (get_or devs k d))) (sym (at_map f mid k d (omega (arith, lt, within, count)))) (ready k d lt))
+    subst (λ (x : DeviceNow). WasSetUp plan x (at (map f mid) k)) (sym (at_map f devs k d (omega (arith, lt, within))))
+    (subst (WasSetUp plan (f (get_or devs k d))) (sym (at_map f mid k d (omega (arith, lt, within, count)))) (ready k d lt))
 
 -- devices that were made ready are unused
 pub unused : {D : Type 0} (m : Ghosts D Card) (limit : D → ℕ) (room_told : (d : D) → m.room d ≡ Some (limit d - length (m.held d))) (plan : Plan) (text : SchedText)
-    (sessions : List (List Transform)) (devs mid : List D) → AreReady (device_now limit m.sessions m.held m.room m.stalls m.stats m.log) plan text.workers devs mid
+    (sessions : List (List Transform)) (devs mid : List D) → WereSetUp (device_now limit m.sessions m.held m.room m.stalls m.stats m.log) plan text.workers devs mid
     → AreUnused m 128 (scheduler_of text sessions mid)
 unused m limit room_told plan text sessions devs mid ready k d lt =
     let r = ready k d lt in
@@ -91,7 +91,7 @@ stalls_capped before now enqueued taken old new a b c out = omega (arith, a, b, 
 module _ {D : Type 0} (m : Ghosts D Card) (limit : D → ℕ) (room_told : (d : D) → m.room d ≡ Some (limit d - length (m.held d))) (keeps_depth : (d e : D) → m.follows d e → limit e ≡ limit d)
     (plan : Plan) (burst : ℕ) (text : SchedText) (sessions : List (List Transform)) (devs mid : List D) (first last : Running Card D m)
     (within : text.workers ≤ length devs) (count : length mid ≡ length devs)
-    (ready : AreReady (device_now limit m.sessions m.held m.room m.stalls m.stats m.log) plan text.workers devs mid)
+    (ready : WereSetUp (device_now limit m.sessions m.held m.room m.stalls m.stats m.log) plan text.workers devs mid)
     (started : IsStarted (scheduler_of text sessions mid) 1024 first) (on : Follows (pool_of first) (pool_of last)) where
   abbrev f : D → DeviceNow
   f = device_now limit m.sessions m.held m.room m.stalls m.stats m.log

@@ -26,10 +26,10 @@ use Rattle.capcrypt.specs.declared.ending.Ending.{Ending}
 use Rattle.capcrypt.specs.declared.ending.Ending.TheVariants.{Done, Memory, Usage, Vdev, Capture, Sessions, ReadFault, WriteFault, Stalled, TooLarge}
 use Rattle.capcrypt.specs.Dealing.{Dealing, workers_of}
 use Rattle.capcrypt.specs.Devices.{DeviceNow, at, taken_together}
-use Rattle.capcrypt.specs.Served.{HaveServed, IsReady}
+use Rattle.capcrypt.specs.Served.{HaveServed, WasSetUp}
 use Rattle.capcrypt.specs.Start.{Settings, Start, Begins, Stops, workers_in}
 use Rattle.capcrypt.specs.Written.{raised, ending_at}
-use Rattle.capcrypt.specs.Ran.{HasWritten, IsUnused, Job, IsWritten, IsDecided, IsLate, Serves, ServesWhole, AppendsRecords, AppendsUpto, flow_ending, stop_ending}
+use Rattle.capcrypt.specs.Ran.{HasAppended, UsesNone, Job, IsWritten, IsDecided, IsLate, DevicesServe, DevicesServeWhole, AppendsRecords, AppendsUpto, flow_ending, stop_ending}
 
 -- no record is empty
 length-spelled : (big : Bool) (x : ℕ) → length (spelled big 4 x) ≡ 4
@@ -228,7 +228,7 @@ module _ (plan : Plan) (rs : List Rec) (rest : Rest) (n : ℕ) (taken : List Log
 module _ (s : Settings) (h : Header) (rs : List Rec) (rest : Rest) (o : Outcome) (old base new : List ℕ) where
   -- the header could not be written
   pub header_failed : (devices : ℕ) → o ≡ record { ending = WriteFault; counts = counts_of []; header = true; devices = devices } → AppendsPart old new (header_bytes (raised h))
-      → HasWritten (Begins s) (Holds h rs rest) o old new
+      → HasAppended (Begins s) (Holds h rs rest) o old new
   header_failed devices is part = rw is (record {
     n = 0;
     within = omega arith;
@@ -239,7 +239,7 @@ module _ (s : Settings) (h : Header) (rs : List Rec) (rest : Rest) (o : Outcome)
 
   -- memory was wanting before the header was written
   pub not_set_up : (devices : ℕ) → o ≡ record { ending = Memory; counts = counts_of []; header = true; devices = devices } → new ≡ old
-      → HasWritten (Begins s) (Holds h rs rest) o old new
+      → HasAppended (Begins s) (Holds h rs rest) o old new
   not_set_up devices is same = rw is (record {
     n = 0;
     within = omega arith;
@@ -250,7 +250,7 @@ module _ (s : Settings) (h : Header) (rs : List Rec) (rest : Rest) (o : Outcome)
 
   -- the packets flowed, to this end
   pub flowed : (end : FlowEnd) (taken : List LogEntry) → base ≡ old ++ header_bytes (raised h) → o.ending ≡ flow_ending end → o.header ≡ true
-      → Flowed s.plan h.big rs rest end o.counts base new taken → HasWritten (Begins s) (Holds h rs rest) o old new
+      → Flowed s.plan h.big rs rest end o.counts base new taken → HasAppended (Begins s) (Holds h rs rest) o old new
   flowed end taken wrote ending header f =
       let all : IsDecided (flow_ending end) → f.n ≡ length rs = λ x. (f.whole (decided_whole s.plan rs rest f.n taken end x)).records in
       record {
@@ -288,7 +288,7 @@ module _ (s : Settings) (h : Header) (rs : List Rec) (rest : Rest) (o o' : Outco
   upto_of (Sessions line kind) n within all written = all_front s h rs rest old new n (all tt) written
   upto_of (TooLarge value) n within all written = all_front s h rs rest old new n (all tt) written
 
-  flush_failed : HasWritten (Begins s) (Holds h rs rest) o old new → o' ≡ record o { ending = WriteFault } → HasWritten (Begins s) (Holds h rs rest) o' old new
+  flush_failed : HasAppended (Begins s) (Holds h rs rest) o old new → o' ≡ record o { ending = WriteFault } → HasAppended (Begins s) (Holds h rs rest) o' old new
   flush_failed w is =
       let ending : o'.ending ≡ WriteFault = ap (λ (x : Outcome). x.ending) is in
       record {
@@ -300,8 +300,8 @@ module _ (s : Settings) (h : Header) (rs : List Rec) (rest : Rest) (o o' : Outco
         whole = λ x. absurd (subst IsDecided ending x);
       }
 
-  pub flushed : (R : Type 0) → HasWritten (Begins s) (Holds h rs rest) o old new → (o' ≡ o) ⊎ ((o' ≡ record o { ending = WriteFault }) × R) → HasWritten (Begins s) (Holds h rs rest) o' old new
-  flushed R w (inl same) = subst (λ (x : Outcome). HasWritten (Begins s) (Holds h rs rest) x old new) (sym same) w
+  pub flushed : (R : Type 0) → HasAppended (Begins s) (Holds h rs rest) o old new → (o' ≡ o) ⊎ ((o' ≡ record o { ending = WriteFault }) × R) → HasAppended (Begins s) (Holds h rs rest) o' old new
+  flushed R w (inl same) = subst (λ (x : Outcome). HasAppended (Begins s) (Holds h rs rest) x old new) (sym same) w
   flushed R w (inr failed) = flush_failed w failed.0
 
 -- whatever the outcome was before the flush, it decides no more behind one that failed
@@ -334,7 +334,7 @@ stopped_written (TooLarge value) start reading old is = let same : start ≡ Sto
 
 -- what was written of it, and what was counted
 not_begun_written : (e : Ending) (start : Start) (reading : Reading) (o : Outcome) (old : List ℕ) → (IsDecided e → start ≡ Stops e)
-    → o ≡ record { ending = e; counts = counts_of []; header = false; devices = 0 } → HasWritten start reading o old old
+    → o ≡ record { ending = e; counts = counts_of []; header = false; devices = 0 } → HasAppended start reading o old old
 not_begun_written e start reading o old is same = rw same (record {
   n = 0;
   within = omega arith;
@@ -361,7 +361,7 @@ not_begun e start reading o old kept before now is never same idle =
 module _ (s : Settings) (h : Header) (rs : List Rec) (rest : Rest) (o : Outcome) (old new : List ℕ) (kept : ℕ → Type 0) (before now : List DeviceNow) where
   -- memory was wanting when the first n devices were ready
   pub wanting : (n : ℕ) → n ≤ workers_of s.dealing → o ≡ record { ending = Memory; counts = counts_of []; header = true; devices = workers_of s.dealing } → new ≡ old
-      → ((k : ℕ) → k < n → IsReady s.plan (at before k) (at now k)) → kept n → Job (Begins s) (Holds h rs rest) o old new kept before now
+      → ((k : ℕ) → k < n → WasSetUp s.plan (at before k) (at now k)) → kept n → Job (Begins s) (Holds h rs rest) o old new kept before now
   wanting n few is same ready others =
       let ending : o.ending ≡ Memory = ap (λ (x : Outcome). x.ending) is in
       record {
@@ -373,7 +373,7 @@ module _ (s : Settings) (h : Header) (rs : List Rec) (rest : Rest) (o : Outcome)
       }
 
   -- the devices have served
-  pub served : HasWritten (Begins s) (Holds h rs rest) o old new → o.header ≡ true → o.devices ≡ workers_of s.dealing → HaveServed s (entries_from s.plan 0 rs) before now
+  pub served : HasAppended (Begins s) (Holds h rs rest) o old new → o.header ≡ true → o.devices ≡ workers_of s.dealing → HaveServed s (entries_from s.plan 0 rs) before now
       → (IsDecided o.ending → taken_together (workers_of s.dealing) now ≡ length (entries_from s.plan 0 rs)) → Job (Begins s) (Holds h rs rest) o old new kept before now
   served wrote header devices serves whole = record {
     wrote = wrote;
@@ -389,11 +389,11 @@ module _ (plan : Plan) (burst : ℕ) (x d : Dealing) (is : x ≡ d) (h : Header)
   by y = record { plan = plan; burst = burst; dealing = y }
 
   pub wanting_by : (n : ℕ) → n ≤ workers_of d → o ≡ record { ending = Memory; counts = counts_of []; header = true; devices = workers_of d } → new ≡ old
-      → ((k : ℕ) → k < n → IsReady plan (at before k) (at now k)) → kept n → Job (Begins (by x)) (Holds h rs rest) o old new kept before now
+      → ((k : ℕ) → k < n → WasSetUp plan (at before k) (at now k)) → kept n → Job (Begins (by x)) (Holds h rs rest) o old new kept before now
   wanting_by n few same wrote ready others =
       subst (λ (y : Dealing). Job (Begins (by y)) (Holds h rs rest) o old new kept before now) (sym is) (wanting (by d) h rs rest o old new kept before now n few same wrote ready others)
 
-  pub served_by : HasWritten (Begins (by x)) (Holds h rs rest) o old new → o.header ≡ true → o.devices ≡ workers_of x → HaveServed (by d) (entries_from plan 0 rs) before now
+  pub served_by : HasAppended (Begins (by x)) (Holds h rs rest) o old new → o.header ≡ true → o.devices ≡ workers_of x → HaveServed (by d) (entries_from plan 0 rs) before now
       → (IsDecided o.ending → taken_together (workers_of d) now ≡ length (entries_from plan 0 rs)) → Job (Begins (by x)) (Holds h rs rest) o old new kept before now
   served_by wrote header devices serves whole =
       served (by x) h rs rest o old new kept before now wrote header devices (subst (λ (y : Dealing). HaveServed (by y) (entries_from plan 0 rs) before now) (sym is) serves)

@@ -3,7 +3,7 @@ use Rattle.std.proofs.Common.{◌≡◌, ◌⊎◌, inl, inr, ℕ, zero, suc, Bo
 use Rattle.std.specs.Prelude.{nat_lt, if◌then◌else◌}
 use Rattle.crypto_op.specs.Op.{Entry}
 use Rattle.dev_core.specs.declared.driver.Driver.{Ghosts}
-use Rattle.sched_core.specs.Pending.{IsSound, pending_of}
+use Rattle.sched_core.specs.Pending.{IsRingSound, pending_of}
 use Rattle.sched_core.specs.Ring.{Ring}
 use Rattle.sched_core.specs.Stopped.{Stopped}
 use Rattle.sched_core.specs.declared.ring.Slot.{Slot}
@@ -13,7 +13,7 @@ use Rattle.sched_modes.specs.Crew.{Crew, account, free, nobody, one_at, size_wor
 use Rattle.sched_modes.specs.Dealing.{AreUnused}
 use Rattle.sched_modes.specs.Pool.{Follows, crew, held_in, pending_in}
 use Rattle.sched_modes.specs.Running.{IsStarted, admits_by, crew_of, first_places, mode_of, pending, pool_of, stopped_of}
-use Rattle.sched_modes.specs.Workers.{cap_of, places}
+use Rattle.sched_modes.specs.Workers.{ring_cap, places}
 use Rattle.sched_modes.specs.declared.pool.Pool.{Pool}
 use Rattle.sched_modes.specs.declared.running.Running.{Running}
 use Rattle.sched_modes.specs.declared.running.Running.TheVariants.{Round, Size, Fail}
@@ -24,7 +24,7 @@ use Rattle.sched_modes.proofs.Open.{length_held}
 
 -- ---- a ring that is full, and a worker that is
 
-held_pending : {C : Type 0} (ring : Option (Ring (Slot C))) (es : List (Entry C)) → IsSound ring es → 0 < length es → 0 < length (pending_of ring es)
+held_pending : {C : Type 0} (ring : Option (Ring (Slot C))) (es : List (Entry C)) → IsRingSound ring es → 0 < length es → 0 < length (pending_of ring es)
 held_pending None es sound some = some
 held_pending (Some r) es sound some = omega (arith, length_held r es sound.0, length_pending r es sound, some)
 
@@ -32,13 +32,13 @@ cap_is : (ordering : Bool) (n cap : ℕ) → Some n ≡ (if ordering then Some c
 cap_is true n cap e = cc
 cap_is false n cap e = absurd (let x : Some n ≡ None = e in cc)
 
-full_pending : {C : Type 0} (ring : Option (Ring (Slot C))) (es : List (Entry C)) (ordering : Bool) (cap n : ℕ) → IsSound ring es → cap_of ring ≡ (if ordering then Some cap else None)
+full_pending : {C : Type 0} (ring : Option (Ring (Slot C))) (es : List (Entry C)) (ordering : Bool) (cap n : ℕ) → IsRingSound ring es → ring_cap ring ≡ (if ordering then Some cap else None)
     → 0 < cap → 0 < n → free (places ring) n ≡ 0 → 0 < length (pending_of ring es)
 full_pending None es ordering cap n sound is some asked none = absurd (omega (arith, asked, none))
 full_pending (Some r) es ordering cap n sound is some asked none =
     omega (arith, length_pending r es sound, cap_is ordering r.cap cap is, some, asked, none)
 
-first_cap : {C : Type 0} (ring : Option (Ring (Slot C))) (ordering : Bool) (cap : ℕ) → places ring ≡ first_places ordering cap → cap_of ring ≡ (if ordering then Some cap else None)
+first_cap : {C : Type 0} (ring : Option (Ring (Slot C))) (ordering : Bool) (cap : ℕ) → places ring ≡ first_places ordering cap → ring_cap ring ≡ (if ordering then Some cap else None)
 first_cap None true cap e = absurd (let x : None ≡ Some _ = e in cc)
 first_cap None false cap e = refl
 first_cap (Some r) true cap e = ap (option_map (λ q. q.cap)) e

@@ -16,10 +16,10 @@ use Rattle.capcrypt.specs.declared.ending.Ending.{Ending}
 use Rattle.capcrypt.specs.declared.ending.Ending.TheVariants.{Done, Memory, Usage, Vdev, Capture, Sessions, ReadFault, WriteFault, Stalled, TooLarge}
 use Rattle.capcrypt.specs.Dealing.{workers_of}
 use Rattle.capcrypt.specs.Devices.{DeviceNow, at, operations_of, taken_together}
-use Rattle.capcrypt.specs.Served.{HaveServed, IsReady}
+use Rattle.capcrypt.specs.Served.{HaveServed, WasSetUp}
 use Rattle.capcrypt.specs.Start.{Start, Begins, Stops, workers_in}
 use Rattle.capcrypt.specs.Written.{answers_of, counts_upto, written_of, written_upto, ending_of, reads_header}
-use Rattle.capcrypt.specs.Report.{number_of, report_of}
+use Rattle.capcrypt.specs.Report.{status_of, report_of}
 
 abbrev pub stop_ending : ReadStop → Ending
 stop_ending ReadStop.End = Done
@@ -73,26 +73,26 @@ IsWritten Stalled start reading n old new = AppendsRecords start reading n old n
 IsWritten _ start reading n old new = new ≡ old ++ written_of start reading
 
 -- The used devices have served, on the operations that the plan makes of the records.
-abbrev pub Serves : Start → Reading → List DeviceNow → List DeviceNow → Type 0
-Serves (Begins s) (Holds h rs rest) before now = HaveServed s (entries_from s.plan 0 rs) before now
-Serves (Begins s) (NoHeader at cause) before now = ⊥
-Serves (Stops e) reading before now = ⊥
+abbrev pub DevicesServe : Start → Reading → List DeviceNow → List DeviceNow → Type 0
+DevicesServe (Begins s) (Holds h rs rest) before now = HaveServed s (entries_from s.plan 0 rs) before now
+DevicesServe (Begins s) (NoHeader at cause) before now = ⊥
+DevicesServe (Stops e) reading before now = ⊥
 
 -- They have taken all of them.
-abbrev pub ServesWhole : Start → Reading → List DeviceNow → List DeviceNow → Type 0
-ServesWhole (Begins s) (Holds h rs rest) before now =
+abbrev pub DevicesServeWhole : Start → Reading → List DeviceNow → List DeviceNow → Type 0
+DevicesServeWhole (Begins s) (Holds h rs rest) before now =
     HaveServed s (entries_from s.plan 0 rs) before now × (taken_together (workers_of s.dealing) now ≡ length (entries_from s.plan 0 rs))
-ServesWhole (Begins s) (NoHeader at cause) before now = Unit {0}
-ServesWhole (Stops e) reading before now = Unit {0}
+DevicesServeWhole (Begins s) (NoHeader at cause) before now = Unit {0}
+DevicesServeWhole (Stops e) reading before now = Unit {0}
 
 -- The first n of the devices that were to be used are ready, and then memory was wanting.
 abbrev pub AreSetUp : Start → (n : ℕ) → Outcome → List DeviceNow → List DeviceNow → Type 0
 AreSetUp (Begins s) n o before now = (o.ending ≡ Memory) × (o.header ≡ true) × (n ≤ workers_of s.dealing)
-    × ((k : ℕ) → k < n → IsReady s.plan (at before k) (at now k))
+    × ((k : ℕ) → k < n → WasSetUp s.plan (at before k) (at now k))
 AreSetUp (Stops e) n o before now = ⊥
 
 -- No device was used: but for some that were set up, all are as they were (`kept n`: all behind the first n).
-pub record IsUnused (start : Start) (o : Outcome) (kept : ℕ → Type 0) (before now : List DeviceNow) : Type 0 where
+pub record UsesNone (start : Start) (o : Outcome) (kept : ℕ → Type 0) (before now : List DeviceNow) : Type 0 where
   pub n : ℕ
   pub some : (n ≡ 0) ⊎ AreSetUp start n o before now
   pub others : kept n
@@ -110,7 +110,7 @@ pub record IsDriven (burst : ℕ) (ops : List LogEntry) (e : Ending) (past : Lis
   pub few : length ops < 2 ^ 32
 
 -- What a run whose outcome is this appended, which wrote n records whole.
-pub record HasWritten (start : Start) (reading : Reading) (o : Outcome) (old new : List ℕ) : Type 0 where
+pub record HasAppended (start : Start) (reading : Reading) (o : Outcome) (old new : List ℕ) : Type 0 where
   pub n : ℕ
   pub within : n ≤ length (answers_of start reading)
   pub counts : o.counts ≡ counts_upto start reading n
@@ -119,16 +119,16 @@ pub record HasWritten (start : Start) (reading : Reading) (o : Outcome) (old new
 
 -- A run but for its report: what it wrote, and what its devices did.
 pub record Job (start : Start) (reading : Reading) (o : Outcome) (old new : List ℕ) (kept : ℕ → Type 0) (before now : List DeviceNow) : Type 0 where
-  pub wrote : HasWritten start reading o old new
+  pub wrote : HasAppended start reading o old new
   pub used : o.header ≡ true → o.devices ≡ workers_in start
-  pub devices : IsUnused start o kept before now ⊎ Serves start reading before now
-  pub stalled : o.ending ≡ Stalled → (o.header ≡ true) × Serves start reading before now
-  pub decided : IsDecided o.ending → ServesWhole start reading before now
+  pub devices : UsesNone start o kept before now ⊎ DevicesServe start reading before now
+  pub stalled : o.ending ≡ Stalled → (o.header ≡ true) × DevicesServe start reading before now
+  pub decided : IsDecided o.ending → DevicesServeWhole start reading before now
 
 -- The same with the report: the status is that of the outcome that the report tells, or the report failed.
-pub record Ran (start : Start) (reading : Reading) (status : ℕ) (old new : List ℕ) (kept : ℕ → Type 0) (before now : List DeviceNow)
+pub record HasRun (start : Start) (reading : Reading) (status : ℕ) (old new : List ℕ) (kept : ℕ → Type 0) (before now : List DeviceNow)
     (report_old report_new : List ℕ) (report_rose : Type 0) : Type 0 where
   pub outcome : Outcome
   pub job : Job start reading outcome old new kept before now
-  pub reported : ((status ≡ number_of outcome.ending) × (report_new ≡ report_old ++ report_of outcome (operations_of outcome.devices now)))
+  pub reported : ((status ≡ status_of outcome.ending) × (report_new ≡ report_old ++ report_of outcome (operations_of outcome.devices now)))
       ⊎ ((status ≡ 6) × report_rose × AppendsFront report_old report_new (report_of outcome (operations_of outcome.devices now)))

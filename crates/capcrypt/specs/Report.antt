@@ -7,17 +7,17 @@ use Rattle.capcrypt.specs.declared.ending.Outcome.{Outcome}
 use Rattle.capcrypt.specs.declared.ending.Ending.{Ending}
 use Rattle.capcrypt.specs.declared.ending.Ending.TheVariants.{Done, Memory, Usage, Vdev, Capture, Sessions, ReadFault, WriteFault, Stalled, TooLarge}
 
-abbrev pub number_of : Ending → ℕ
-number_of Done = 0
-number_of Memory = 1
-number_of Usage = 2
-number_of (Vdev at) = 2
-number_of (Capture at cause) = 3
-number_of (Sessions line kind) = 4
-number_of ReadFault = 5
-number_of WriteFault = 6
-number_of Stalled = 7
-number_of (TooLarge value) = 8
+abbrev pub status_of : Ending → ℕ
+status_of Done = 0
+status_of Memory = 1
+status_of Usage = 2
+status_of (Vdev at) = 2
+status_of (Capture at cause) = 3
+status_of (Sessions line kind) = 4
+status_of ReadFault = 5
+status_of WriteFault = 6
+status_of Stalled = 7
+status_of (TooLarge value) = 8
 
 abbrev pub cause_name : CaptureCause → List ℕ
 cause_name ShortHeader = codes "short_header"

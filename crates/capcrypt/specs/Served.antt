@@ -17,14 +17,14 @@ pub record HasServed (plan : Plan) (taken : List LogEntry) (before : Option (Lis
   pub log : d.log ≡ option_map (λ l. taken) before
 
 -- It was set up, and holds and took nothing since.
-pub record IsReady (plan : Plan) (before d : DeviceNow) : Type 0 where
+pub record WasSetUp (plan : Plan) (before d : DeviceNow) : Type 0 where
   pub served : HasServed plan [] before.log d
   pub held : d.held ≡ []
   pub stalls : d.stalls ≡ before.stalls
 
 -- so were the first n of some devices, as `f` shows them
-abbrev pub AreReady : {D : Type 0} → (D → DeviceNow) → Plan → (n : ℕ) → List D → List D → Type 0
-AreReady {D} f plan n old new = (k : ℕ) (d : D) → k < n → IsReady plan (f (slice_index_or old k d)) (f (slice_index_or new k d))
+abbrev pub WereSetUp : {D : Type 0} → (D → DeviceNow) → Plan → (n : ℕ) → List D → List D → Type 0
+WereSetUp {D} f plan n old new = (k : ℕ) (d : D) → k < n → WasSetUp plan (f (slice_index_or old k d)) (f (slice_index_or new k d))
 
 -- The used devices took some of these operations, each a list of its own. Where it is known who gets what, this is the
 -- front of what is dealt to it, and all of that where together they took all.

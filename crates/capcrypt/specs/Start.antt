@@ -1,15 +1,15 @@
 -- What a run works by.
-use Rattle.std.specs.Prelude.{◌≡◌, ◌≢◌, ◌≤◌, ℕ, List, length, nat_lt, Option, Some, None, Result, Ok, Err, if◌then◌else◌}
-use Rattle.sched_core.specs.declared.mode.Mode.TheVariants.{MultiCore}
+use Rattle.std.specs.Prelude.{◌≡◌, ◌≤◌, ◌+◌, ℕ, List, length, nat_lt, Option, Some, None, Result, Ok, Err, if◌then◌else◌}
 use Rattle.sched_core.specs.declared.text.SchedText.{SchedText}
-use Rattle.sched_core.specs.Text.{IsSchedulable}
 use Rattle.session_file.specs.declared.plan.Plan.{Plan}
 use Rattle.session_file.specs.Plan.{plan_of}
 use Rattle.packet_plan.specs.Quick.{quick_plan}
-use Rattle.command_words.specs.Asked.{Asked, AsksQuick, AsksCrypt, Fault, NotLegal, BadText, asked}
+use Rattle.command_words.specs.Asked.{Wanted, AsksQuick, AsksCrypt, Fault, NotLegal, BadText, wanted}
+use Rattle.command_words.specs.Gives.{RunsOnOneThread}
 use Rattle.capcrypt.specs.declared.ending.Ending.{Ending}
 use Rattle.capcrypt.specs.declared.ending.Ending.TheVariants.{Usage, Vdev, Sessions, TooLarge}
 use Rattle.capcrypt.specs.declared.start.Task.{Task}
+use Rattle.capcrypt.specs.declared.start.TheConstants.{MAX_TEXT}
 use Rattle.capcrypt.specs.Dealing.{Dealing, Alone, Scheduled, dealing_of, workers_of}
 
 -- what a run works by: its plan, how many operations make a burst, and who deals them
@@ -26,16 +26,11 @@ pub data Start : Type 0 where
   Begins : Settings → Start
   Stops : Ending → Start
 
--- a scheduler that can be made, and runs on one thread
-pub record IsLegal (text : SchedText) : Type 0 where
-  pub schedulable : IsSchedulable text
-  pub mode : text.mode ≢ MultiCore
-
 -- A task for which there are devices enough.
 pub record CanStart (t : Task) (most : ℕ) : Type 0 where
   pub burst : (1 ≤ t.burst) × (t.burst ≤ 256)
   pub devices : (1 ≤ workers_of (dealing_of t.scheduler)) × (workers_of (dealing_of t.scheduler) ≤ most)
-  pub legal : (text : SchedText) → t.scheduler ≡ Some text → IsLegal text
+  pub legal : (text : SchedText) → t.scheduler ≡ Some text → RunsOnOneThread text
 
 abbrev pub start_by : Dealing → ℕ → Result Plan (ℕ × ℕ) → Start
 start_by dealing burst (Ok plan) = Begins (record { plan = plan; burst = burst; dealing = dealing })
@@ -43,10 +38,10 @@ start_by dealing burst (Err fault) = Stops (Sessions fault.0 fault.1)
 
 -- in bursts of this size, by a session text of at most a mebibyte
 abbrev pub start_with : Dealing → ℕ → List ℕ → Start
-start_with dealing burst text = if nat_lt 1048576 (length text) then Stops (TooLarge 1048577) else start_by dealing burst (plan_of text)
+start_with dealing burst text = if nat_lt MAX_TEXT (length text) then Stops (TooLarge (MAX_TEXT + 1)) else start_by dealing burst (plan_of text)
 
 -- by what the words ask for, and by the text of the session source
-abbrev pub start_of : Result Asked Fault → List ℕ → Start
+abbrev pub start_of : Result Wanted Fault → List ℕ → Start
 start_of (Ok (AsksQuick key salt)) text = Begins (record { plan = quick_plan key salt; burst = 1; dealing = Alone })
 start_of (Ok (AsksCrypt scheduler sessions burst)) text = start_with (Scheduled scheduler) burst text
 start_of (Err NotLegal) text = Stops Usage
@@ -54,7 +49,7 @@ start_of (Err (BadText at)) text = Stops (Vdev at)
 
 -- by the words, where so many devices are there
 abbrev pub started : List (List ℕ) → ℕ → List ℕ → Start
-started words devices text = start_of (asked words devices) text
+started words devices text = start_of (wanted words devices) text
 
 -- how many devices a run uses
 abbrev pub workers_in : Start → ℕ
@@ -62,18 +57,18 @@ workers_in (Begins s) = workers_of s.dealing
 workers_in (Stops e) = 0
 
 -- how many devices the words use, where they are legal
-abbrev pub workers_asked : Result Asked Fault → ℕ
+abbrev pub workers_asked : Result Wanted Fault → ℕ
 workers_asked (Ok (AsksQuick key salt)) = 1
 workers_asked (Ok (AsksCrypt scheduler sessions burst)) = scheduler.workers
 workers_asked (Err fault) = 0
 
 -- the burst size of the words, where they are legal
-abbrev pub burst_asked : Result Asked Fault → Option ℕ
+abbrev pub burst_asked : Result Wanted Fault → Option ℕ
 burst_asked (Ok (AsksQuick key salt)) = Some 1
 burst_asked (Ok (AsksCrypt scheduler sessions burst)) = Some burst
 burst_asked (Err fault) = None
 
 -- the words don't ask for the session source
-abbrev pub LeavesSessions : Result Asked Fault → Type 0
+abbrev pub LeavesSessions : Result Wanted Fault → Type 0
 LeavesSessions (Ok (AsksCrypt scheduler sessions burst)) = ⊥
 LeavesSessions _ = Unit {0}

@@ -9,10 +9,11 @@ use Rattle.packet_flow.specs.Counts.{counts_of}
 use Rattle.packet_flow.specs.Flowed.{answer_bytes}
 use Rattle.capcrypt.specs.declared.ending.Ending.{Ending}
 use Rattle.capcrypt.specs.declared.ending.Ending.TheVariants.{Done, Capture, TooLarge}
+use Rattle.capcrypt.specs.declared.work.TheConstants.{SNAPLEN}
 use Rattle.capcrypt.specs.Start.{Start, Begins, Stops}
 
 abbrev pub raised : Header → Header
-raised h = record { big = h.big; nanos = h.nanos; zone = h.zone; sigfigs = h.sigfigs; snaplen = max h.snaplen 262208; link = h.link }
+raised h = record { big = h.big; nanos = h.nanos; zone = h.zone; sigfigs = h.sigfigs; snaplen = max h.snaplen SNAPLEN; link = h.link }
 
 -- the records of a whole run, answered
 abbrev pub answers_of : Start → Reading → List Answered

@@ -6,10 +6,11 @@ ghost use Rattle.capture_io.specs.Capture.{Rec, Rest, Records, Holds, first_plac
 ghost use Rattle.sched_core.specs.Mode.{most_workers};
 ghost use Rattle.sched_core.specs.Stopped.{EachAlike};
 ghost use Rattle.sched_modes.specs.Running.{AreIdle, IsStarted};
+ghost use Rattle.command_words.specs.Gives.{RunsOnOneThread};
 ghost use Rattle.capcrypt.specs.Dealing.{scheduler_of};
 ghost use Rattle.capcrypt.specs.Devices.{HaveStalledOut, devices_now};
 ghost use Rattle.capcrypt.specs.Ran.{IsLate, Job};
-ghost use Rattle.capcrypt.specs.Start.{Begins, CanStart, IsLegal, settings_of};
+ghost use Rattle.capcrypt.specs.Start.{Begins, CanStart, settings_of};
 
 use crate::ending::{Ending, Outcome};
 use crate::ready::set_up_each;
@@ -52,7 +53,7 @@ pub(crate) fn launch<D: Device<Card>>(
     sessions: Arc<SessionTable>,
     devs: Vec<D>,
 ) -> Result<Running<Card, D>, Vec<D>>
-    requires legal { IsLegal text.now }
+    requires legal { RunsOnOneThread text.now }
     requires enough { text.now.workers ≤ length devs.items }
     requires alike { EachAlike D.sessions (arc_value sessions) text.now.workers devs.items }
     requires idle { AreIdle D.Driver text.now.workers devs.items }
@@ -94,7 +95,8 @@ pub(crate) fn deal_packets<S: Source, K: Sink, D: Device<Card>>(
     ensures others { drop text.now.workers result.1.items ≡ drop text.now.workers devs.items }
     ensures ended { S.tells → result.0.ending ≡ Ending.Done → S.left capture.new ≡ [] }
     ensures stalled { result.0.ending ≡ Ending.Stalled
-        → let now = devices_now D.limit D.sessions D.held D.room D.stalls D.stats D.log in HaveStalledOut text.now.workers (now devs.items) (now result.1.items) }
+        → let now = devices_now D.limit D.sessions D.held D.room D.stalls D.stats D.log
+        in HaveStalledOut text.now.workers (now devs.items) (now result.1.items) }
     ensures read_later { S.faults capture.old ≤ S.faults capture.new }
     ensures read_cause { result.0.ending ≡ Ending.ReadFault → Rose (S.faults capture.old) (S.faults capture.new) }
     ensures write_later { K.faults out.old ≤ K.faults out.new }

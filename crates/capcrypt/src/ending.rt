@@ -1,6 +1,6 @@
 //! How a run ends.
 ghost use Rattle.std.specs.Prelude.{◌≡◌};
-ghost use Rattle.capcrypt.specs.Report.{number_of};
+ghost use Rattle.capcrypt.specs.Report.{status_of};
 ghost use Rattle.capcrypt.specs.Ran.{flow_ending, stop_ending};
 
 use capture_io::{CaptureCause, ReadStop};
@@ -46,7 +46,7 @@ pub struct Outcome {
 
 /// The exit status of an ending.
 pub(crate) fn number(ending: &Ending) -> u8
-    ensures { result ≡ number_of ending.now }
+    ensures { result ≡ status_of ending.now }
 {
     match ending {
         Ending::Done => 0,

@@ -6,7 +6,7 @@ ghost use Rattle.session_file.specs.declared.plan.Plan.{Plan};
 ghost use Rattle.packet_plan.specs.Asked.{sessions_of};
 ghost use Rattle.sched_modes.specs.Running.{AreIdle};
 ghost use Rattle.capcrypt.specs.Devices.{device_now};
-ghost use Rattle.capcrypt.specs.Served.{AreReady, IsReady};
+ghost use Rattle.capcrypt.specs.Served.{WereSetUp, WasSetUp};
 
 use crypto_model::OutOfMemory;
 use crypto_op::Card;
@@ -36,7 +36,7 @@ pub(crate) fn set_up<D: Device<Card>>(
 ) -> Result<(), OutOfMemory>
     requires idle { D.held dev.old ≡ [] }
     ensures ready { let now = device_now D.limit D.sessions D.held D.room D.stalls D.stats D.log
-        in OnOk result ((plan : Plan) → arc_value sessions.now ≡ sessions_of plan → IsReady plan (now dev.old) (now dev.new)) }
+        in OnOk result ((plan : Plan) → arc_value sessions.now ≡ sessions_of plan → WasSetUp plan (now dev.old) (now dev.new)) }
     ensures sessions { OnOk result (D.sessions dev.new ≡ arc_value sessions.now) }
     ensures stats { OnOk result (D.stats dev.new ≡ no_stats) }
     ensures unused { OnErr result (dev.new ≡ dev.old) }
@@ -64,10 +64,10 @@ pub(crate) fn set_up_each<D: Device<Card>>(
     ensures count { length devs.new.items ≡ length devs.old.items }
     ensures sessions { IfOk result (λ t. arc_value t ≡ sessions_of plan.now) }
     ensures ready { let now = device_now D.limit D.sessions D.held D.room D.stalls D.stats D.log
-        in OnOk result (AreReady now plan.now text.now.workers devs.old.items devs.new.items) }
+        in OnOk result (WereSetUp now plan.now text.now.workers devs.old.items devs.new.items) }
     ensures others { OnOk result (drop text.now.workers devs.new.items ≡ drop text.now.workers devs.old.items) }
     ensures some { let now = device_now D.limit D.sessions D.held D.room D.stalls D.stats D.log
-        in OnErr result ((n : ℕ) × (n ≤ text.now.workers) × AreReady now plan.now n devs.old.items devs.new.items
+        in OnErr result ((n : ℕ) × (n ≤ text.now.workers) × WereSetUp now plan.now n devs.old.items devs.new.items
         × (drop n devs.new.items ≡ drop n devs.old.items)) }
 {
     let sessions = table_of(alloc, plan)?;

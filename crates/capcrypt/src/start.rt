@@ -2,7 +2,7 @@
 ghost use Rattle.std.specs.Prelude.{◌≡◌, ◌<◌, ◌≤◌, ℕ, length, map, string_bytes, Some, Err, IfOk, IfErr};
 ghost use Rattle.crypto_model.specs.Counts.{Rose};
 ghost use Rattle.session_file.specs.Sound.{IsSound};
-ghost use Rattle.command_words.specs.Asked.{asked};
+ghost use Rattle.command_words.specs.Asked.{wanted};
 ghost use Rattle.capcrypt.specs.Dealing.{Dealing, dealing_of, workers_of};
 ghost use Rattle.capcrypt.specs.Start.{Begins, CanStart, LeavesSessions, Stops, burst_asked, settings_of, start_with, started, workers_asked};
 ghost use Rattle.capcrypt.specs.Ran.{IsDecided};
@@ -59,12 +59,12 @@ pub(crate) fn begin<T: Source>(
     sessions: &mut T,
 ) -> Result<Task, Ending>
     ensures task { T.tells → IfOk result (λ t. started (map string_bytes words.now) devices (T.left sessions.old) ≡ Begins (settings_of t)) }
-    ensures burst { IfOk result (λ t. burst_asked (asked (map string_bytes words.now) devices) ≡ Some t.burst) }
-    ensures workers { IfOk result (λ t. workers_asked (asked (map string_bytes words.now) devices) ≡ workers_of (dealing_of t.scheduler)) }
+    ensures burst { IfOk result (λ t. burst_asked (wanted (map string_bytes words.now) devices) ≡ Some t.burst) }
+    ensures workers { IfOk result (λ t. workers_asked (wanted (map string_bytes words.now) devices) ≡ workers_of (dealing_of t.scheduler)) }
     ensures legal { 0 < devices → IfOk result (λ t. CanStart t devices) }
     ensures stops { T.tells → IfErr result (λ e. IsDecided e → started (map string_bytes words.now) devices (T.left sessions.old) ≡ Stops e) }
     ensures never { ¬ (result ≡ Err Ending.WriteFault) × ¬ (result ≡ Err Ending.Stalled) × ¬ (result ≡ Err Ending.Done) }
-    ensures unread { LeavesSessions (asked (map string_bytes words.now) devices) → sessions.new ≡ sessions.old }
+    ensures unread { LeavesSessions (wanted (map string_bytes words.now) devices) → sessions.new ≡ sessions.old }
     ensures later { T.faults sessions.old ≤ T.faults sessions.new }
     ensures cause { result ≡ Err Ending.ReadFault → Rose (T.faults sessions.old) (T.faults sessions.new) }
 {

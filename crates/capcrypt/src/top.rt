@@ -3,12 +3,12 @@ ghost use Rattle.std.specs.Prelude.{◌≡◌, ◌≤◌, ◌<◌, ◌⊎◌, Li
 ghost use Rattle.crypto_model.specs.Counts.{Rose};
 ghost use Rattle.crypto_op.specs.declared.spec.Card.{Card};
 ghost use Rattle.capture_io.specs.Capture.{Reading, IsReading};
-ghost use Rattle.command_words.specs.Asked.{Fault, asked};
+ghost use Rattle.command_words.specs.Asked.{Fault, wanted};
 ghost use Rattle.capcrypt.specs.Start.{LeavesSessions, Stops, started, workers_asked};
 ghost use Rattle.capcrypt.specs.Written.{ending_of};
-ghost use Rattle.capcrypt.specs.Report.{number_of};
+ghost use Rattle.capcrypt.specs.Report.{status_of};
 ghost use Rattle.capcrypt.specs.Devices.{HaveStalledOut, devices_now};
-ghost use Rattle.capcrypt.specs.Ran.{IsLate, Job, Ran};
+ghost use Rattle.capcrypt.specs.Ran.{IsLate, Job, HasRun};
 
 use crate::ending::{Ending, Outcome, number};
 use crate::report::write_report;
@@ -57,15 +57,16 @@ fn run_unreported<S: Source, T: Source, K: Sink, D: Device<Card>>(
         (λ n. drop n result.1.items ≡ drop n devs.items) (now devs.items) (now result.1.items) }
     ensures count { length result.1.items ≡ length devs.items }
     ensures few { result.0.devices ≤ length devs.items }
-    ensures others { let w = workers_asked (asked (map string_bytes words.now) (length devs.items)) in drop w result.1.items ≡ drop w devs.items }
-    ensures unread { LeavesSessions (asked (map string_bytes words.now) (length devs.items)) → sessions.new ≡ sessions.old }
+    ensures others { let w = workers_asked (wanted (map string_bytes words.now) (length devs.items)) in drop w result.1.items ≡ drop w devs.items }
+    ensures unread { LeavesSessions (wanted (map string_bytes words.now) (length devs.items)) → sessions.new ≡ sessions.old }
     ensures ended { S.tells → result.0.ending ≡ Ending.Done → S.left capture.new ≡ [] }
     ensures stalled { result.0.ending ≡ Ending.Stalled
         → let now = devices_now D.limit D.sessions D.held D.room D.stalls D.stats D.log
-        in HaveStalledOut (workers_asked (asked (map string_bytes words.now) (length devs.items))) (now devs.items) (now result.1.items) }
+        in HaveStalledOut (workers_asked (wanted (map string_bytes words.now) (length devs.items))) (now devs.items) (now result.1.items) }
 
     // Where the run ends before the capture is read, capture and output are as they were, and only the session source fails.
-    ensures refused { (fault : Fault) → asked (map string_bytes words.now) (length devs.items) ≡ Err fault → (capture.new ≡ capture.old) × (out.new ≡ out.old) }
+    ensures refused { (fault : Fault) → wanted (map string_bytes words.now) (length devs.items) ≡ Err fault
+        → (capture.new ≡ capture.old) × (out.new ≡ out.old) }
     ensures stopped { T.tells → (e : Ending) → started (map string_bytes words.now) (length devs.items) (T.left sessions.old) ≡ Stops e
         → (capture.new ≡ capture.old) × (out.new ≡ out.old) × ¬ (result.0.ending ≡ Ending.WriteFault)
         × (result.0.ending ≡ Ending.ReadFault → Rose (T.faults sessions.old) (T.faults sessions.new)) }
@@ -108,18 +109,18 @@ pub fn run<S: Source, T: Source, K: Sink, E: Sink, D: Device<Card>>(
     // What was written, reported and done by the devices, and why.
     ensures ran { S.tells → T.tells → K.tells → E.tells → (reading : Reading) → IsReading (S.left capture.old) reading
         → let now = devices_now D.limit D.sessions D.held D.room D.stalls D.stats D.log
-        in Ran (started (map string_bytes words.now) (length devs.items) (T.left sessions.old)) reading result.status (K.written out.old) (K.written out.new)
+        in HasRun (started (map string_bytes words.now) (length devs.items) (T.left sessions.old)) reading result.status (K.written out.old) (K.written out.new)
         (λ n. drop n result.devs.items ≡ drop n devs.items) (now devs.items) (now result.devs.items)
         (E.written report.old) (E.written report.new) (Rose (E.faults report.old) (E.faults report.new)) }
     // The devices behind the used ones are as they were, and so is the session source where the words don't ask for it.
     ensures devices { length result.devs.items ≡ length devs.items }
-    ensures others { let w = workers_asked (asked (map string_bytes words.now) (length devs.items)) in drop w result.devs.items ≡ drop w devs.items }
-    ensures unread { LeavesSessions (asked (map string_bytes words.now) (length devs.items)) → sessions.new ≡ sessions.old }
+    ensures others { let w = workers_asked (wanted (map string_bytes words.now) (length devs.items)) in drop w result.devs.items ≡ drop w devs.items }
+    ensures unread { LeavesSessions (wanted (map string_bytes words.now) (length devs.items)) → sessions.new ≡ sessions.old }
     ensures helped { result.helped ≡ 0 }
     ensures whole { S.tells → result.status ≡ 0 → S.left capture.new ≡ [] }
 
     // Where the words or the session text end the run, capture and output are as they were, and no fault is theirs.
-    ensures refused { (fault : Fault) → asked (map string_bytes words.now) (length devs.items) ≡ Err fault
+    ensures refused { (fault : Fault) → wanted (map string_bytes words.now) (length devs.items) ≡ Err fault
         → (capture.new ≡ capture.old) × (out.new ≡ out.old) }
     ensures stopped { T.tells → (e : Ending) → started (map string_bytes words.now) (length devs.items) (T.left sessions.old) ≡ Stops e
         → (capture.new ≡ capture.old) × (out.new ≡ out.old) × (result.status ≡ 5 → Rose (T.faults sessions.old) (T.faults sessions.new))
@@ -131,7 +132,7 @@ pub fn run<S: Source, T: Source, K: Sink, E: Sink, D: Device<Card>>(
     ensures write_cause { result.status ≡ 6 → Rose (K.faults out.old) (K.faults out.new) ⊎ Rose (E.faults report.old) (E.faults report.new) }
     ensures stall_cause { result.status ≡ 7
         → let now = devices_now D.limit D.sessions D.held D.room D.stalls D.stats D.log
-        in HaveStalledOut (workers_asked (asked (map string_bytes words.now) (length devs.items))) (now devs.items) (now result.devs.items) }
+        in HaveStalledOut (workers_asked (wanted (map string_bytes words.now) (length devs.items))) (now devs.items) (now result.devs.items) }
     // A write or a flush that failed is told.
     ensures out_steady { K.steady → ¬ (result.status ≡ 6) → K.faults out.new ≡ K.faults out.old }
     ensures report_steady { E.steady → ¬ (result.status ≡ 6) → E.faults report.new ≡ E.faults report.old }
@@ -141,9 +142,9 @@ pub fn run<S: Source, T: Source, K: Sink, E: Sink, D: Device<Card>>(
         → ¬ Rose (S.faults capture.old) (S.faults capture.new) → ¬ Rose (T.faults sessions.old) (T.faults sessions.new)
         → ¬ Rose (K.faults out.old) (K.faults out.new) → ¬ Rose (E.faults report.old) (E.faults report.new)
         → (let now = devices_now D.limit D.sessions D.held D.room D.stalls D.stats D.log
-        in ¬ HaveStalledOut (workers_asked (asked (map string_bytes words.now) (length devs.items))) (now devs.items) (now result.devs.items))
+        in ¬ HaveStalledOut (workers_asked (wanted (map string_bytes words.now) (length devs.items))) (now devs.items) (now result.devs.items))
         → (result.status ≡ 1)
-        ⊎ (result.status ≡ number_of (ending_of (started (map string_bytes words.now) (length devs.items) (T.left sessions.old)) reading)) }
+        ⊎ (result.status ≡ status_of (ending_of (started (map string_bytes words.now) (length devs.items) (T.left sessions.old)) reading)) }
 {
     let (outcome, devs) = run_unreported(alloc, words, capture, sessions, out, devs);
     let operations = operations_of(&devs);

@@ -13,7 +13,7 @@ ghost use Rattle.capcrypt.specs.Dealing.{dealing_of, workers_of};
 ghost use Rattle.capcrypt.specs.Start.{Begins, CanStart, settings_of};
 ghost use Rattle.capcrypt.specs.Written.{raised};
 ghost use Rattle.capcrypt.specs.Devices.{HasStalledOut, HaveStalledOut, devices_now};
-ghost use Rattle.capcrypt.specs.Ran.{HasWritten, IsDriven, IsLate, Job};
+ghost use Rattle.capcrypt.specs.Ran.{HasAppended, IsDriven, IsLate, Job};
 
 use crate::deal::deal_packets;
 use crate::ending::{Ending, Outcome, ending_of_flow, ending_of_stop};
@@ -22,10 +22,15 @@ use crate::start::Task;
 use capture_io::{Header, Sink, Source, read_header, write_header};
 use crypto_op::Card;
 use dev_core::{Device, Driver, Kind};
-use packet_flow::{Counts, transfer};
+use mbuf_chain::FreshSegs;
+use packet_flow::{Counts, Sizes, transfer};
 use std::alloc::Global;
 
 const SNAPLEN: u32 = 262_208;
+
+// Few enough that what is in flight stays in the processor's caches, and a live capture flows: so many blocks of one size
+// the C library's allocator keeps at hand.
+const WINDOW: usize = 7;
 
 fn raise(header: &Header) -> Header
     ensures { result ≡ raised header.now }
@@ -71,7 +76,7 @@ fn write_packets<S: Source, K: Sink, D: Driver<Card>>(
     requires log { D.log dev.old ≡ option_map (λ l. []) (D.log dev.old) }
     requires works { (d : D) → D.follows dev.old d → NeverIdle D.admits D.held d }
     ensures wrote { S.tells → K.tells → (rs : List Rec) (rest : Rest) → Records header.now.big first_place (S.left capture.old) rs rest
-        → HasWritten (Begins (settings_of task.now)) (Holds header.now rs rest) result (K.written out.old) (K.written out.new) }
+        → HasAppended (Begins (settings_of task.now)) (Holds header.now rs rest) result (K.written out.old) (K.written out.new) }
     // The calls that it made offer the operations in bursts of the task's size.
     ensures driven { S.tells → K.tells → (rs : List Rec) (rest : Rest) → Records header.now.big first_place (S.left capture.old) rs rest
         → (past : List Call) × Ran D.does dev.old past dev.new
@@ -93,7 +98,14 @@ fn write_packets<S: Source, K: Sink, D: Driver<Card>>(
     if let Err(_fault) = write_header(out, &raise(header)) {
         return without_packets(Ending::WriteFault, true, devices);
     }
-    let flow = transfer(alloc, &task.plan, task.burst, header, capture, out, dev);
+    let mut store = FreshSegs::new(alloc);
+    let sizes = Sizes {
+        window: WINDOW,
+        burst: task.burst,
+    };
+    let flow = transfer(
+        alloc, &task.plan, sizes, header, capture, &mut store, out, dev,
+    );
     Outcome {
         ending: ending_of_flow(flow.end),
         counts: flow.counts,
@@ -134,7 +146,7 @@ pub(crate) fn send_packets<S: Source, K: Sink, D: Driver<Card>>(
     requires log { D.log dev.old ≡ option_map (λ l. []) (D.log dev.old) }
     requires works { (d : D) → D.follows dev.old d → NeverIdle D.admits D.held d }
     ensures wrote { S.tells → K.tells → (rs : List Rec) (rest : Rest) → Records header.now.big first_place (S.left capture.old) rs rest
-        → HasWritten (Begins (settings_of task.now)) (Holds header.now rs rest) result (K.written out.old) (K.written out.new) }
+        → HasAppended (Begins (settings_of task.now)) (Holds header.now rs rest) result (K.written out.old) (K.written out.new) }
     // The calls that it made offer the operations in bursts of the task's size.
     ensures driven { S.tells → K.tells → (rs : List Rec) (rest : Rest) → Records header.now.big first_place (S.left capture.old) rs rest
         → (past : List Call) × Ran D.does dev.old past dev.new

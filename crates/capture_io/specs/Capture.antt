@@ -2,6 +2,7 @@
 use Rattle.std.specs.Prelude.{◌≡◌, ◌<◌, ◌+◌, ◌==◌, ℕ, Bool, true, false, List, [], ◌∷◌, ◌++◌, length, take, drop, Option, Some, None, Result, Ok, Err, nat_lt, if◌then◌else◌}
 use Rattle.byteorder.specs.Endian.{big_number, little_number, big_bytes, little_bytes}
 use Rattle.mbuf_chain.specs.Chain.{packet_of}
+use Rattle.capture_io.specs.declared.reading.TheConstants.{MAX_CAPTURED}
 use Rattle.capture_io.specs.declared.header.Header.{Header}
 use Rattle.capture_io.specs.declared.header.Place.{Place}
 use Rattle.capture_io.specs.declared.header.Record.{Record}
@@ -90,7 +91,7 @@ head_of big bytes = record {
 -- the first limit that a record passes, by the number that passes it
 abbrev pub limit_of : ℕ → RecordHead → Option ℕ
 limit_of records h =
-    if nat_lt 262144 h.captured then Some h.captured
+    if nat_lt MAX_CAPTURED h.captured then Some h.captured
     else if nat_lt 4294967231 h.orig then Some h.orig
     else if records == 4294967295 then Some 4294967296
     else None
@@ -157,7 +158,7 @@ IsRecordCause _ = ⊥
 -- why a read of the record at this place can stop, whatever the bytes
 abbrev pub CanStopRecord : ℕ → ReadStop → Type 0
 CanStopRecord at (BadCapture place cause) = (place ≡ at) × IsRecordCause cause
-CanStopRecord at (TooLarge value) = 262144 < value
+CanStopRecord at (TooLarge value) = MAX_CAPTURED < value
 CanStopRecord at _ = Unit {0}
 
 -- the place behind a record

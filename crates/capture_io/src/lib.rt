@@ -53,7 +53,7 @@ pub use laws::one_reading;
 pub use memory::{MemSink, MemSource};
 pub use outside::{ReadFault, Sink, Source, WriteFault};
 pub use pieces::{fill, write_all};
-pub use reading::{read_header, read_record};
+pub use reading::{MAX_CAPTURED, read_header, read_record};
 pub use standard::{StdSink, StdSource};
 pub use text::{TextStop, read_text};
 pub use writing::{write_header, write_record};

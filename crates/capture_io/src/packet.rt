@@ -10,6 +10,7 @@ ghost use Rattle.capture_io.specs.Filled.{filled_shape};
 use crate::header::{CaptureCause, ReadStop};
 use crate::outside::Source;
 use crate::pieces::fill;
+use crate::reading::MAX_CAPTURED;
 use crypto_model::OutOfMemory;
 use mbuf_chain::{Mbuf, NoSeg, SegStore};
 use seg_list::{Seg, SegList};
@@ -117,7 +118,7 @@ fn read_segs<S: Source, P: SegStore>(
 ) -> Result<(), ReadStop>
     requires endless { P.endless }
     requires none { segs.old ≡ [] }
-    requires small { len ≤ 262144 }
+    requires small { len ≤ MAX_CAPTURED }
     ensures found { S.tells → OnOk result (S.left src.old ≡ packet_of segs.new ++ S.left src.new) }
     ensures shape { OnOk result (shape_of segs.new ≡ filled_shape len) }
     ensures stop { S.tells → IfErr result (StopsPacket len at (S.left src.old)) }
@@ -149,7 +150,7 @@ pub fn read_packet<S: Source, P: SegStore>(
     at: u64,
 ) -> Result<Mbuf, ReadStop>
     requires endless { P.endless }
-    requires small { len ≤ 262144 }
+    requires small { len ≤ MAX_CAPTURED }
     ensures found { S.tells → IfOk result (λ m. S.left src.old ≡ packet_of m ++ S.left src.new) }
     ensures length { IfOk result (λ m. length (packet_of m) ≡ len) }
     ensures shape { IfOk result (λ m. shape_of m ≡ filled_shape len) }

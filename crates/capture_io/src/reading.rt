@@ -4,7 +4,7 @@ ghost use Rattle.crypto_model.specs.Counts.{Rose};
 ghost use Rattle.capture_io.specs.Capture.{number, magic_of, header_of, header_at, head_of, limit_of, record_at, view, behind, StopsHeader, CanStopHeader, IsHeaderFault, StopsRecord, CanStopRecord};
 ghost use Rattle.mbuf_chain.specs.Chain.{packet_of, shape_of};
 ghost use Rattle.capture_io.specs.Filled.{filled_shape};
-ghost use Rattle.capture_io.specs.Limits.{IsSmall};
+ghost use Rattle.capture_io.specs.Limits.{IsPlaced, IsSmall};
 
 use crate::header::{CaptureCause, Header, Place, ReadStop, Record, RecordHead};
 use crate::outside::Source;
@@ -14,7 +14,8 @@ use byteorder::{BigEndian, ByteOrder, LittleEndian};
 use mbuf_chain::SegStore;
 use std::alloc::Global;
 
-const MAX_CAPTURED: u32 = 262_144;
+/// So many bytes are captured of a packet at most.
+pub const MAX_CAPTURED: u32 = 262_144;
 
 const MAX_ORIGINAL: u32 = u32::MAX - 64;
 
@@ -142,7 +143,7 @@ pub fn read_record<S: Source, P: SegStore>(
     store: &mut P,
 ) -> Result<Record, ReadStop>
     requires endless { P.endless }
-    requires at { place.old.at ≤ 24 + 262160 * place.old.records }
+    requires at { IsPlaced place.old }
     ensures found { S.tells → IfOk result (λ r. record_at header.now.big place.old (S.left src.old) ≡ Ok (view r, S.left src.new)) }
     ensures stop { S.tells → IfErr result (StopsRecord header.now.big place.old (S.left src.old)) }
     ensures taken { S.tells → ((bytes : List ℕ) × (S.left src.old ≡ bytes ++ S.left src.new)) }
@@ -155,7 +156,7 @@ pub fn read_record<S: Source, P: SegStore>(
     ensures range { place.new.records < 2 ^ 32 }
     ensures more { IfOk result (λ r. place.new.records ≡ place.old.records + 1) }
     ensures stays { OnErr result (place.new ≡ place.old) }
-    ensures place { place.new.at ≤ 24 + 262160 * place.new.records }
+    ensures place { IsPlaced place.new }
     ensures later { S.faults src.old ≤ S.faults src.new }
     ensures cause { IsErrOf result ReadStop.Fault → Rose (S.faults src.old) (S.faults src.new) }
 {

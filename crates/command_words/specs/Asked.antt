@@ -10,9 +10,9 @@ use Rattle.sched_core.specs.declared.mode.Mode.{Mode}
 use Rattle.sched_core.specs.declared.mode.Mode.TheVariants.{MultiCore}
 use Rattle.sched_core.specs.declared.text.SchedText.{SchedText}
 
-pub data Asked : Type 0 where
-  AsksQuick : (key salt : List ℕ) → Asked
-  AsksCrypt : (scheduler : SchedText) (sessions : List ℕ) (burst : ℕ) → Asked
+pub data Wanted : Type 0 where
+  AsksQuick : (key salt : List ℕ) → Wanted
+  AsksCrypt : (scheduler : SchedText) (sessions : List ℕ) (burst : ℕ) → Wanted
 
 -- the words are not legal, or their scheduler text is not, from this place on
 pub data Fault : Type 0 where
@@ -21,12 +21,12 @@ pub data Fault : Type 0 where
 
 -- ---- `quick KEY SALT`
 
-abbrev pub quick_with : Option (List ℕ) → Option (List ℕ) → Result Asked Fault
+abbrev pub quick_with : Option (List ℕ) → Option (List ℕ) → Result Wanted Fault
 quick_with (Some key) (Some salt) = Ok (AsksQuick key salt)
 quick_with _ _ = Err NotLegal
 
 -- the words behind `quick`
-abbrev pub quick_asked : List (List ℕ) → Result Asked Fault
+abbrev pub quick_asked : List (List ℕ) → Result Wanted Fault
 quick_asked (key ∷ salt ∷ []) = quick_with (key_of key) (salt_of salt)
 quick_asked _ = Err NotLegal
 
@@ -57,29 +57,29 @@ is_on_one_thread MultiCore = false
 is_on_one_thread mode = true
 
 -- the last rules: the scheduler text, and then its mode, and that there is a device for each worker
-abbrev pub with_scheduler : Result SchedText ℕ → List ℕ → ℕ → ℕ → Result Asked Fault
+abbrev pub with_scheduler : Result SchedText ℕ → List ℕ → ℕ → ℕ → Result Wanted Fault
 with_scheduler (Err at) sessions burst devices = Err (BadText at)
 with_scheduler (Ok text) sessions burst devices =
     if is_on_one_thread text.mode && nat_le text.workers devices then Ok (AsksCrypt text sessions burst) else Err NotLegal
 
-abbrev pub with_burst : Option ℕ → Values → ℕ → Result Asked Fault
+abbrev pub with_burst : Option ℕ → Values → ℕ → Result Wanted Fault
 with_burst None values devices = Err NotLegal
 with_burst (Some burst) values devices = with_scheduler (sched_of values.vdev) values.sessions burst devices
 
-abbrev pub with_values : Option Values → ℕ → Result Asked Fault
+abbrev pub with_values : Option Values → ℕ → Result Wanted Fault
 with_values None devices = Err NotLegal
 with_values (Some values) devices = with_burst (burst_of values.burst) values devices
 
 -- ---- all words
 
 -- what the words ask for, where so many devices are there
-unfoldable pub asked : List (List ℕ) → ℕ → Result Asked Fault
-asked [] devices = Err NotLegal
-asked (word ∷ rest) devices =
+unfoldable pub wanted : List (List ℕ) → ℕ → Result Wanted Fault
+wanted [] devices = Err NotLegal
+wanted (word ∷ rest) devices =
     if bytes_eq word (codes "quick") then quick_asked rest
     else (if bytes_eq word (codes "crypt") then with_values (values_of (word ∷ rest)) devices else Err NotLegal)
 
 -- the file of the sessions, where legal words name one
-abbrev pub sessions_of : Result Asked Fault → Option (List ℕ)
-sessions_of (Ok (AsksCrypt scheduler sessions burst)) = Some sessions
-sessions_of _ = None
+abbrev pub sessions_file : Result Wanted Fault → Option (List ℕ)
+sessions_file (Ok (AsksCrypt scheduler sessions burst)) = Some sessions
+sessions_file _ = None

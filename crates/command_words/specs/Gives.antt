@@ -2,44 +2,49 @@
 use Rattle.std.specs.Prelude.{◌≡◌, ◌≢◌, ◌≤◌, Result, Ok, Err}
 use Rattle.sched_core.specs.Text.{IsSchedulable}
 use Rattle.sched_core.specs.declared.mode.Mode.TheVariants.{MultiCore}
+use Rattle.sched_core.specs.declared.text.SchedText.{SchedText}
 use Rattle.command_words.specs.declared.quick.Quick.{Quick}
 use Rattle.command_words.specs.declared.crypt.Crypt.{Crypt}
 use Rattle.command_words.specs.declared.command.Command.{Command}
 use Rattle.command_words.specs.declared.command.Command.TheVariants as command
 use Rattle.command_words.specs.declared.refused.WordsRefused.{WordsRefused}
 use Rattle.command_words.specs.declared.refused.WordsRefused.TheVariants.{Usage, Vdev, OutOfMemory}
-use Rattle.command_words.specs.Asked.{Asked, AsksQuick, AsksCrypt, Fault, NotLegal, BadText}
+use Rattle.command_words.specs.Asked.{Wanted, AsksQuick, AsksCrypt, Fault, NotLegal, BadText}
 
-abbrev pub quick_view : Quick → Asked
+abbrev pub quick_view : Quick → Wanted
 quick_view q = AsksQuick q.key q.salt
 
-abbrev pub crypt_view : Crypt → Asked
+abbrev pub crypt_view : Crypt → Wanted
 crypt_view c = AsksCrypt c.scheduler c.sessions.now c.burst
 
-abbrev pub command_view : Command → Asked
+abbrev pub command_view : Command → Wanted
 command_view (command.Quick q) = quick_view q
 command_view (command.Crypt c) = crypt_view c
 
 -- the words are refused as they should be, or memory was wanting
-abbrev pub Refuses : WordsRefused → Result Asked Fault → Type 0
+abbrev pub Refuses : WordsRefused → Result Wanted Fault → Type 0
 Refuses Usage said = said ≡ Err NotLegal
 Refuses (Vdev at) said = said ≡ Err (BadText at)
 Refuses OutOfMemory said = Unit {0}
 
-abbrev pub GivesCrypt : Result Crypt WordsRefused → Result Asked Fault → Type 0
+abbrev pub GivesCrypt : Result Crypt WordsRefused → Result Wanted Fault → Type 0
 GivesCrypt (Ok crypt) said = said ≡ Ok (crypt_view crypt)
 GivesCrypt (Err refused) said = Refuses refused said
 
 -- the answer is what the words ask for
-abbrev pub Gives : Result Command WordsRefused → Result Asked Fault → Type 0
+abbrev pub Gives : Result Command WordsRefused → Result Wanted Fault → Type 0
 Gives (Ok command) said = said ≡ Ok (command_view command)
 Gives (Err refused) said = Refuses refused said
 
--- A burst of 1 to 256, and a scheduler that can be made and runs on one thread.
+-- a scheduler that can be made, and runs on one thread
+pub record RunsOnOneThread (text : SchedText) : Type 0 where
+  pub schedulable : IsSchedulable text
+  pub mode : text.mode ≢ MultiCore
+
+-- A burst of 1 to 256, and such a scheduler.
 pub record IsLegal (c : Crypt) : Type 0 where
   pub burst : (1 ≤ c.burst) × (c.burst ≤ 256)
-  pub schedulable : IsSchedulable c.scheduler
-  pub mode : c.scheduler.mode ≢ MultiCore
+  pub scheduler : RunsOnOneThread c.scheduler
 
 abbrev pub IsLegalIfCrypt : Command → Type 0
 IsLegalIfCrypt (command.Quick q) = Unit {0}

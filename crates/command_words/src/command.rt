@@ -1,6 +1,6 @@
 //! What the words ask for.
 ghost use Rattle.std.specs.Prelude.{◌≡◌, IfOk, map, option_map, string_bytes};
-ghost use Rattle.command_words.specs.Asked.{asked, sessions_of};
+ghost use Rattle.command_words.specs.Asked.{wanted, sessions_file};
 ghost use Rattle.command_words.specs.Gives.{Gives, IsLegalIfCrypt};
 
 use crate::crypt::{Crypt, crypt_of};
@@ -20,13 +20,13 @@ pub enum Command<'a> {
 }
 
 /// What the words behind the program's name ask for, where so many devices are there.
-#[tactic(auto, unfolding(crate::specs::Asked::asked))]
+#[tactic(auto, unfolding(crate::specs::Asked::wanted))]
 pub fn command_of<'a>(
     alloc: Global,
     words: &'a [String],
     devices: usize,
 ) -> Result<Command<'a>, WordsRefused>
-    ensures value { Gives result (asked (map string_bytes words.entry.now) devices) }
+    ensures value { Gives result (wanted (map string_bytes words.entry.now) devices) }
     ensures legal { IfOk result IsLegalIfCrypt }
 {
     let [word, rest @ ..] = words else {
@@ -49,7 +49,7 @@ pub fn command_of<'a>(
 
 /// The file of the sessions, where words that are legal for eight devices name one.
 pub fn sessions_path(alloc: Global, words: &[String]) -> Result<Option<String>, OutOfMemory>
-    ensures { IfOk result (λ path. option_map string_bytes path ≡ sessions_of (asked (map string_bytes words.now) 8)) }
+    ensures { IfOk result (λ path. option_map string_bytes path ≡ sessions_file (wanted (map string_bytes words.now) 8)) }
 {
     match command_of(alloc, words, MAX_DEVICES) {
         Ok(Command::Crypt(crypt)) => {

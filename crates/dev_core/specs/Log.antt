@@ -8,8 +8,8 @@ use Rattle.dev_core.specs.declared.stats.Stats.{Stats}
 use Rattle.dev_core.specs.Stats.{no_stats}
 use Rattle.dev_core.specs.declared.log.LogDriver.{LogDriver}
 
-abbrev pub inner_of : {D : Type 0} → LogDriver D → D
-inner_of d = d.over.inner
+abbrev pub logged_of : {D : Type 0} → LogDriver D → D
+logged_of d = d.over.inner
 
 -- how many entries it logs at most
 abbrev pub cap_of : {D : Type 0} → LogDriver D → ℕ
@@ -23,21 +23,21 @@ abbrev pub log_room_of : {D : Type 0} → LogDriver D → ℕ
 log_room_of d = cap_of d - length (log_of d)
 
 -- in how many calls the cap cut the number
-abbrev pub cuts_of : {D : Type 0} → LogDriver D → ℕ
-cuts_of d = d.over.cuts
+abbrev pub log_cuts : {D : Type 0} → LogDriver D → ℕ
+log_cuts d = d.over.cuts
 
-abbrev pub stats_of : {D : Type 0} → LogDriver D → Stats
-stats_of d = d.over.stats
+abbrev pub log_stats : {D : Type 0} → LogDriver D → Stats
+log_stats d = d.over.stats
 
 -- made over this device, with nothing logged and nothing counted
-pub record IsNew {D : Type 0} (inner : D) (cap : ℕ) (d : LogDriver D) : Type 0 where
-  pub is_over : inner_of d ≡ inner
+pub record IsNewLog {D : Type 0} (inner : D) (cap : ℕ) (d : LogDriver D) : Type 0 where
+  pub is_over : logged_of d ≡ inner
   pub capacity : cap_of d ≡ cap
   pub log : log_of d ≡ []
-  pub cuts : cuts_of d ≡ 0
-  pub stats : stats_of d ≡ no_stats
+  pub cuts : log_cuts d ≡ 0
+  pub stats : log_stats d ≡ no_stats
 
 -- What a call does: the room for entries is the limit of what goes in, and what comes out has none.
-abbrev pub Does : {C D : Type 0} → Ghosts D C → LogDriver D → Call → LogDriver D → Type 0
-Does m old (Offers ops n) new = EnqueuesUpto m (Some (log_room_of old)) ops n old.over new.over × (cap_of new ≡ cap_of old)
-Does m old (Asks most n) new = DequeuesUpto m None most n old.over new.over × (cap_of new ≡ cap_of old)
+abbrev pub LogDoes : {C D : Type 0} → Ghosts D C → LogDriver D → Call → LogDriver D → Type 0
+LogDoes m old (Offers ops n) new = EnqueuesUpto m (Some (log_room_of old)) ops n old.over new.over × (cap_of new ≡ cap_of old)
+LogDoes m old (Asks most n) new = DequeuesUpto m None most n old.over new.over × (cap_of new ≡ cap_of old)

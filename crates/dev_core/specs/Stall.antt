@@ -19,13 +19,15 @@ abbrev pub dequeues_of : {D : Type 0} → StallDriver D → LimitedCalls
 dequeues_of d = d.dequeues
 
 -- in how many calls a limit cut the number
-abbrev pub cuts_of : {D : Type 0} → StallDriver D → ℕ
-cuts_of d = d.over.cuts
+abbrev pub stall_cuts : {D : Type 0} → StallDriver D → ℕ
+stall_cuts d = d.over.cuts
 
-abbrev pub stats_of : {D : Type 0} → StallDriver D → Stats
-stats_of d = d.over.stats
+abbrev pub stall_stats : {D : Type 0} → StallDriver D → Stats
+stall_stats d = d.over.stats
 
 -- What a call does: each kind of call has its own limits.
-abbrev pub Does : {C D : Type 0} → Ghosts D C → StallDriver D → Call → StallDriver D → Type 0
-Does m old (Offers ops n) new = EnqueuesUpto m (next_limit old.enqueues) ops n old.over new.over × (new.enqueues ≡ counted old.enqueues) × (new.dequeues ≡ old.dequeues)
-Does m old (Asks most n) new = DequeuesUpto m (next_limit old.dequeues) most n old.over new.over × (new.dequeues ≡ counted old.dequeues) × (new.enqueues ≡ old.enqueues)
+abbrev pub StallDoes : {C D : Type 0} → Ghosts D C → StallDriver D → Call → StallDriver D → Type 0
+StallDoes m old (Offers ops n) new = EnqueuesUpto m (next_limit old.enqueues) ops n old.over new.over × (new.enqueues ≡ counted old.enqueues)
+    × (new.dequeues ≡ old.dequeues)
+StallDoes m old (Asks most n) new = DequeuesUpto m (next_limit old.dequeues) most n old.over new.over × (new.dequeues ≡ counted old.dequeues)
+    × (new.enqueues ≡ old.enqueues)

@@ -26,11 +26,11 @@ pub struct LogDriver<D> {
 }
 
 impl<D: Drop> LogDriver<D> {
-    ghost use Rattle.dev_core.specs.Log.{IsNew};
+    ghost use Rattle.dev_core.specs.Log.{IsNewLog};
 
     /// Reserves room for `cap` entries. Where there is no memory, the inner device is dropped.
     pub fn new(alloc: Global, inner: D, cap: usize) -> Result<LogDriver<D>, OutOfMemory>
-        ensures { IfOk result (IsNew inner cap) }
+        ensures { IfOk result (IsNewLog inner cap) }
     {
         Ok(LogDriver {
             log: Vec::with_capacity(alloc, cap)?,
@@ -41,7 +41,7 @@ impl<D: Drop> LogDriver<D> {
 }
 
 impl<D> LogDriver<D> {
-    ghost use Rattle.dev_core.specs.Log.{inner_of, log_of, cap_of};
+    ghost use Rattle.dev_core.specs.Log.{logged_of, log_of, cap_of};
 
     /// The entries of all operations taken since it was set up, in their order.
     pub fn log(&self) -> &[LogEntry]
@@ -53,14 +53,14 @@ impl<D> LogDriver<D> {
 
     /// The device below.
     pub fn inner(&self) -> &D
-        ensures { result.now ≡ inner_of self.now }
+        ensures { result.now ≡ logged_of self.now }
     {
         &self.over.inner
     }
 
     /// Hands the device below back.
     pub fn into_inner(self) -> D
-        ensures { result ≡ inner_of self }
+        ensures { result ≡ logged_of self }
     {
         let LogDriver {
             over,
@@ -94,35 +94,35 @@ fn note<C>(log: &mut Vec<LogEntry>, burst: &OpBurst<C>, n: usize)
 }
 
 impl<C, D: Device<C>> Driver<C> for LogDriver<D> {
-    ghost use Rattle.dev_core.specs.Log.{Does, inner_of, log_of, cuts_of, stats_of};
+    ghost use Rattle.dev_core.specs.Log.{LogDoes, logged_of, log_of, log_cuts, log_stats};
 
-    ghost held = { λ d. D.held (inner_of d) };
+    ghost held = { λ d. D.held (logged_of d) };
 
-    ghost room = { λ d. D.room (inner_of d) };
+    ghost room = { λ d. D.room (logged_of d) };
 
-    ghost admits = { λ d lens. D.admits (inner_of d) lens };
+    ghost admits = { λ d lens. D.admits (logged_of d) lens };
 
-    ghost stalls = { λ d. capped (D.stalls (inner_of d) + cuts_of d) };
+    ghost stalls = { λ d. capped (D.stalls (logged_of d) + log_cuts d) };
 
-    ghost sessions = { λ d. D.sessions (inner_of d) };
+    ghost sessions = { λ d. D.sessions (logged_of d) };
 
-    ghost stats = { stats_of };
+    ghost stats = { log_stats };
 
     ghost log = { λ d. Some (log_of d) };
 
-    ghost ordered = { λ d. D.ordered (inner_of d) };
+    ghost ordered = { λ d. D.ordered (logged_of d) };
 
-    ghost follows = { λ d e. D.follows (inner_of d) (inner_of e) };
+    ghost follows = { λ d e. D.follows (logged_of d) (logged_of e) };
 
-    ghost does = { λ d c e. Does D.Driver d c e };
+    ghost does = { λ d c e. LogDoes D.Driver d c e };
 
-    ghost room_admits = { λ d r ls e. D.room_admits (inner_of d) r ls e };
+    ghost room_admits = { λ d r ls e. D.room_admits (logged_of d) r ls e };
 
-    ghost keeps_order = { λ d e p o. D.keeps_order (inner_of d) (inner_of e) p o };
+    ghost keeps_order = { λ d e p o. D.keeps_order (logged_of d) (logged_of e) p o };
 
-    ghost follows_itself = { λ d. D.follows_itself (inner_of d) };
+    ghost follows_itself = { λ d. D.follows_itself (logged_of d) };
 
-    ghost follows_on = { λ d e f p q. D.follows_on (inner_of d) (inner_of e) (inner_of f) p q };
+    ghost follows_on = { λ d e f p q. D.follows_on (logged_of d) (logged_of e) (logged_of f) p q };
 
     fn enqueue_burst(&mut self, burst: &mut OpBurst<C>, max: usize) -> usize {
         let logged = self.log.len();
@@ -155,15 +155,15 @@ impl<C, D: Device<C>> Driver<C> for LogDriver<D> {
 }
 
 impl<C, D: Device<C>> Device<C> for LogDriver<D> {
-    ghost use Rattle.dev_core.specs.Log.{inner_of, cap_of, log_of, cuts_of, stats_of};
+    ghost use Rattle.dev_core.specs.Log.{logged_of, cap_of, log_of, log_cuts, log_stats};
 
-    ghost limit = { λ d. D.limit (inner_of d) };
+    ghost limit = { λ d. D.limit (logged_of d) };
 
-    ghost room_told = { λ d. D.room_told (inner_of d) };
+    ghost room_told = { λ d. D.room_told (logged_of d) };
 
-    ghost keeps_depth = { λ d e p. D.keeps_depth (inner_of d) (inner_of e) p };
+    ghost keeps_depth = { λ d e p. D.keeps_depth (logged_of d) (logged_of e) p };
 
-    ghost within_depth = { λ d. D.within_depth (inner_of d) };
+    ghost within_depth = { λ d. D.within_depth (logged_of d) };
 
     /// Sets the inner device up, and then empties the log.
     fn set_up(
@@ -174,21 +174,21 @@ impl<C, D: Device<C>> Device<C> for LogDriver<D> {
         depth: usize,
     ) -> Result<(), SetUpRefused>
         ensures bad_depth { IsErrOf result BadDepth ↔ ¬ (IsDepth depth) }
-        ensures busy { IsErrOf result Busy ↔ IsDepth depth × (0 < length (D.held (inner_of self.old))) }
+        ensures busy { IsErrOf result Busy ↔ IsDepth depth × (0 < length (D.held (logged_of self.old))) }
         ensures refused { OnErr result (self.new ≡ self.old) }
-        ensures sessions { OnOk result (D.sessions (inner_of self.new) ≡ arc_value sessions) }
-        ensures depth { OnOk result (D.limit (inner_of self.new) ≡ depth) }
-        ensures held { OnOk result (D.held (inner_of self.new) ≡ []) }
-        ensures stats { OnOk result (stats_of self.new ≡ no_stats) }
+        ensures sessions { OnOk result (D.sessions (logged_of self.new) ≡ arc_value sessions) }
+        ensures depth { OnOk result (D.limit (logged_of self.new) ≡ depth) }
+        ensures held { OnOk result (D.held (logged_of self.new) ≡ []) }
+        ensures stats { OnOk result (log_stats self.new ≡ no_stats) }
         ensures log { OnOk result (Some (log_of self.new) ≡ option_map (λ l. []) (Some (log_of self.old))) }
-        ensures stalls { capped (D.stalls (inner_of self.new) + cuts_of self.new) ≡ capped (D.stalls (inner_of self.old) + cuts_of self.old) }
+        ensures stalls { capped (D.stalls (logged_of self.new) + log_cuts self.new) ≡ capped (D.stalls (logged_of self.old) + log_cuts self.old) }
 
         // The cuts go on being counted where they were.
-        ensures cuts { cuts_of self.new ≡ cuts_of self.old }
+        ensures cuts { log_cuts self.new ≡ log_cuts self.old }
         ensures cap { cap_of self.new ≡ cap_of self.old }
-        ensures inner_stalls { D.stalls (inner_of self.new) ≡ D.stalls (inner_of self.old) }
-        ensures inner_stats { OnOk result (D.stats (inner_of self.new) ≡ no_stats) }
-        ensures inner_log { OnOk result (D.log (inner_of self.new) ≡ option_map (λ l. []) (D.log (inner_of self.old))) }
+        ensures inner_stalls { D.stalls (logged_of self.new) ≡ D.stalls (logged_of self.old) }
+        ensures inner_stats { OnOk result (D.stats (logged_of self.new) ≡ no_stats) }
+        ensures inner_log { OnOk result (D.log (logged_of self.new) ≡ option_map (λ l. []) (D.log (logged_of self.old))) }
     {
         self.over.inner.set_up(alloc, kind, sessions, depth)?;
         self.over.stats = Stats::new();

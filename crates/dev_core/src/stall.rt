@@ -24,15 +24,15 @@ pub struct StallDriver<D> {
 }
 
 impl<D> StallDriver<D> {
-    ghost use Rattle.dev_core.specs.Stall.{inner_of, enqueues_of, dequeues_of, cuts_of, stats_of};
+    ghost use Rattle.dev_core.specs.Stall.{inner_of, enqueues_of, dequeues_of, stall_cuts, stall_stats};
 
     /// Over this device, with no call counted yet.
     pub fn new(inner: D, enqueue: Limits, dequeue: Limits) -> StallDriver<D>
         ensures inner { inner_of result ≡ inner }
         ensures enqueues { enqueues_of result ≡ record { limits = enqueue; calls = 0 } }
         ensures dequeues { dequeues_of result ≡ record { limits = dequeue; calls = 0 } }
-        ensures cuts { cuts_of result ≡ 0 }
-        ensures stats { stats_of result ≡ no_stats }
+        ensures cuts { stall_cuts result ≡ 0 }
+        ensures stats { stall_stats result ≡ no_stats }
     {
         StallDriver {
             over: Over::new(inner),
@@ -68,7 +68,7 @@ impl<D> StallDriver<D> {
 }
 
 impl<C, D: Device<C>> Driver<C> for StallDriver<D> {
-    ghost use Rattle.dev_core.specs.Stall.{Does, inner_of, cuts_of, stats_of};
+    ghost use Rattle.dev_core.specs.Stall.{StallDoes, inner_of, stall_cuts, stall_stats};
 
     ghost held = { λ d. D.held (inner_of d) };
 
@@ -76,11 +76,11 @@ impl<C, D: Device<C>> Driver<C> for StallDriver<D> {
 
     ghost admits = { λ d lens. D.admits (inner_of d) lens };
 
-    ghost stalls = { λ d. capped (D.stalls (inner_of d) + cuts_of d) };
+    ghost stalls = { λ d. capped (D.stalls (inner_of d) + stall_cuts d) };
 
     ghost sessions = { λ d. D.sessions (inner_of d) };
 
-    ghost stats = { stats_of };
+    ghost stats = { stall_stats };
 
     ghost log = { λ d. D.log (inner_of d) };
 
@@ -88,7 +88,7 @@ impl<C, D: Device<C>> Driver<C> for StallDriver<D> {
 
     ghost follows = { λ d e. D.follows (inner_of d) (inner_of e) };
 
-    ghost does = { λ d c e. Does D.Driver d c e };
+    ghost does = { λ d c e. StallDoes D.Driver d c e };
 
     ghost room_admits = { λ d r ls e. D.room_admits (inner_of d) r ls e };
 
@@ -126,7 +126,7 @@ impl<C, D: Device<C>> Driver<C> for StallDriver<D> {
 }
 
 impl<C, D: Device<C>> Device<C> for StallDriver<D> {
-    ghost use Rattle.dev_core.specs.Stall.{inner_of, enqueues_of, dequeues_of, cuts_of, stats_of};
+    ghost use Rattle.dev_core.specs.Stall.{inner_of, enqueues_of, dequeues_of, stall_cuts, stall_stats};
 
     ghost limit = { λ d. D.limit (inner_of d) };
 
@@ -150,14 +150,14 @@ impl<C, D: Device<C>> Device<C> for StallDriver<D> {
         ensures sessions { OnOk result (D.sessions (inner_of self.new) ≡ arc_value sessions) }
         ensures depth { OnOk result (D.limit (inner_of self.new) ≡ depth) }
         ensures held { OnOk result (D.held (inner_of self.new) ≡ []) }
-        ensures stats { OnOk result (stats_of self.new ≡ no_stats) }
+        ensures stats { OnOk result (stall_stats self.new ≡ no_stats) }
         ensures log { OnOk result (D.log (inner_of self.new) ≡ option_map (λ l. []) (D.log (inner_of self.old))) }
-        ensures stalls { capped (D.stalls (inner_of self.new) + cuts_of self.new) ≡ capped (D.stalls (inner_of self.old) + cuts_of self.old) }
+        ensures stalls { capped (D.stalls (inner_of self.new) + stall_cuts self.new) ≡ capped (D.stalls (inner_of self.old) + stall_cuts self.old) }
 
         // The calls go on being counted where they were.
         ensures enqueues { enqueues_of self.new ≡ enqueues_of self.old }
         ensures dequeues { dequeues_of self.new ≡ dequeues_of self.old }
-        ensures cuts { cuts_of self.new ≡ cuts_of self.old }
+        ensures cuts { stall_cuts self.new ≡ stall_cuts self.old }
         ensures inner_stalls { D.stalls (inner_of self.new) ≡ D.stalls (inner_of self.old) }
         ensures inner_stats { OnOk result (D.stats (inner_of self.new) ≡ no_stats) }
     {

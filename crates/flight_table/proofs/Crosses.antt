@@ -11,9 +11,7 @@ use Rattle.atomic_table.specs.contracts.owned.Table as table
 use Rattle.atomic_table.specs.declared.shared.TableRule.{Ghosts as Rule}
 use Rattle.atomic_table.proofs.send_lease.SendLease.TheSendSync as lease
 use Rattle.std.specs.declared.alloc.Allocator.{Ghosts as Alloc}
-use Rattle.crypto_op.specs.contracts.op.Op as op
-use Rattle.crypto_op.specs.contracts.spec.OpSpec as spec
-use Rattle.mbuf_chain.specs.contracts.mbuf.Mbuf as mbuf
+use Rattle.crypto_op.proofs.Crosses.{op_send}
 use Rattle.flight_table.specs.contracts.hand.Hand as hand
 use Rattle.flight_table.specs.contracts.owner.Owner as owner
 use Rattle.flight_table.specs.contracts.book.Note as note
@@ -22,15 +20,6 @@ use Rattle.flight_table.specs.contracts.book.Book.TheInside as inside
 
 pub note_send : IsSend note.the_row
 note_send = search (sendable, crosses, badge.the_send) depth 20
-
-pub spec_send : IsSend spec.the_row
-spec_send = search (sendable, crosses) depth 20
-
-pub mbuf_send : IsSend mbuf.the_row
-mbuf_send = search (sendable, crosses) depth 20
-
-pub op_send : (C : RattleType) → IsSend C → IsSend (op.the_row C)
-op_send C c = declared_send (op.the_type C) (search (sendable, crosses, spec_send) depth 12, (search (sendable, crosses) depth 12, (search (sendable, crosses, mbuf_send) depth 12, (as_row_send (row_field C) c, (search (sendable, crosses) depth 12, (search (sendable, crosses) depth 12, tt))))))
 
 pub ruleset over = (seat.the_send, shared.the_send, shared.the_sync)
 

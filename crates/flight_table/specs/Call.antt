@@ -138,7 +138,8 @@ looks s m n m' = (m' ≡ (looked m.0 s.word (unpacked n), m.1)) × IsPacked n
 -- a hand took the operation under the word that it had found, or saw another word
 abbrev pub takes_one : Step Slot → M → ℕ → M → Type 0
 takes_one s m n m' =
-    (n ≡ s.first → (x : Flying) × (m' ≡ (grabbed (listed m.0 s.word (unpacked n).number) s.word (unpacked n), (s.word, Some x) ∷ m.1)) × Waiting m.0.about (unpacked n).number x × (look m.0.taken s.word ≡ None))
+    (n ≡ s.first → (x : Flying) × (m' ≡ (grabbed (listed m.0 s.word (unpacked n).number) s.word (unpacked n), (s.word, Some x) ∷ m.1))
+    × Waiting m.0.about (unpacked n).number x × (look m.0.taken s.word ≡ None))
     × (n ≢ s.first → looks s m n m')
 
 -- a slot that was emptied comes home
@@ -166,7 +167,8 @@ sees s m n m' = Shown m.0 s.word (unpacked n) × IsPacked n × (m' ≡ (looked m
 abbrev pub lifts : Phase → (BookData → ℕ → Flying → Type 0) → Step Slot → M → ℕ → M → Type 0
 lifts phase good s m n m' =
     Shown m.0 s.word (unpacked n) × IsPacked n
-    × ((unpacked n).phase ≡ phase → (x : Flying) × (w : Sent) × (look m.0.given s.word ≡ Some w) × (unpacked n ≡ word phase w.number w.worker) × good m.0.about w.number x
+    × ((unpacked n).phase ≡ phase → (x : Flying) × (w : Sent) × (look m.0.given s.word ≡ Some w)
+    × (unpacked n ≡ word phase w.number w.worker) × good m.0.about w.number x
     × (m' ≡ (grabbed (looked m.0 s.word (unpacked n)) s.word (unpacked n), (s.word, Some x) ∷ m.1)))
     × ((unpacked n).phase ≢ phase → m' ≡ (looked m.0 s.word (unpacked n), m.1))
 

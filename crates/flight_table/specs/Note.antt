@@ -42,9 +42,9 @@ abbrev pub nobody : BookView
 nobody = note_of 0 None
 
 -- the entry of the first view
-abbrev pub entry_of : List BookView → Option Drawn
-entry_of [] = None
-entry_of (v ∷ vs) = v.entry
+abbrev pub first_entry : List BookView → Option Drawn
+first_entry [] = None
+first_entry (v ∷ vs) = v.entry
 
 abbrev pub one_later : BookView → BookView
 one_later v = note_of (suc v.number) v.entry

@@ -123,7 +123,8 @@ dones w cells (suc n) = is_done w (cells n) + dones w cells n
 
 -- Seats
 
--- the one owner's view is o; a hand is the one of a worker that was made and not joined, and its view is that worker's; the view of a hand that was joined has nothing
+-- the one owner's view is o; a hand is the one of a worker that was made and not joined, and its view is that worker's;
+-- the view of a hand that was joined has nothing
 abbrev pub SeatOk : ℕ → FlightView → (ℕ → ℕ) → (ℕ → FlightView) → ℕ → FlightView → Role → Type 0
 SeatOk owner o seat_of hand j v Owns = (j ≡ owner) × (v ≡ o)
 SeatOk owner o seat_of hand j v Takes = (v.worker < o.made) × (j ≡ seat_of v.worker) × (v ≡ hand v.worker) × (look o.gathered v.worker ≡ None)

@@ -27,12 +27,25 @@ times w (x ∷ xs) = (if w == x then 1 else 0) + times w xs
 abbrev pub no_word : Word
 no_word = word Free 0 0
 
+abbrev pub new_hand : BookData → ℕ → FlightView
+new_hand about w = record {
+  about = about;
+  role = Takes;
+  worker = w;
+  made = 0;
+  looks = [];
+  out = None;
+  mark = no_word;
+  given = [];
+  taken = [];
+  finished = 0;
+  collected = [];
+  gathered = [];
+}
+
 -- an owner that has made some hands
 abbrev pub opened : BookData → ℕ → FlightView
-opened about made = record { about = about; role = Owns; worker = 0; made = made; looks = []; out = None; mark = no_word; given = []; taken = []; finished = 0; collected = []; gathered = [] }
-
-abbrev pub new_hand : BookData → ℕ → FlightView
-new_hand about w = record { about = about; role = Takes; worker = w; made = 0; looks = []; out = None; mark = no_word; given = []; taken = []; finished = 0; collected = []; gathered = [] }
+opened about made = record (new_hand about 0) { role = Owns; made = made }
 
 -- After a step
 
@@ -85,4 +98,4 @@ abbrev pub no_book : BookData
 no_book = record { table = record { words = 0; slots = 0; views_name = 0; atom = 0; block = 0; offset = 0; slot_names = [] }; sessions = []; drawn = [] }
 
 abbrev pub spent : FlightView
-spent = record { about = no_book; role = Spent; worker = 0; made = 0; looks = []; out = None; mark = no_word; given = []; taken = []; finished = 0; collected = []; gathered = [] }
+spent = record (new_hand no_book 0) { role = Spent }

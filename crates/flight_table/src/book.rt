@@ -121,7 +121,8 @@ impl Model for Book {
 
     ghost view = { λ b. record { table = b.table.shared.table_id; sessions = b.sessions.value; drawn = b.owner.me.0.drawn } };
 
-    ghost invariant = { λ b. (b.owner.table_id ≡ b.table.shared.table_id) × (b.table.shared.table_id.words ≡ 1) × (b.owner.me ≡ (owner_of b.owner.me.0.drawn, [])) };
+    ghost invariant = { λ b. (b.owner.table_id ≡ b.table.shared.table_id)
+        × (b.table.shared.table_id.words ≡ 1) × (b.owner.me ≡ (owner_of b.owner.me.0.drawn, [])) };
 }
 
 /// A number of a book. A contract sees what was drawn under it. It can't be cloned, and lies in an operation as
@@ -134,12 +135,12 @@ pub struct Note {
 
 impl Model for Note {
     ghost use Rattle.std.specs.Prelude.{◌≡◌, ◌<◌, ◌^◌, [], ◌∷◌, Some};
-    ghost use Rattle.flight_table.specs.Note.{NoteData, note_of, entry_of};
+    ghost use Rattle.flight_table.specs.Note.{NoteData, note_of, first_entry};
     ghost use Rattle.flight_table.specs.declared.book.Drawn.{Drawn};
 
     ghost Value = { NoteData };
 
-    ghost view = { λ n. record { book = n.badge.table_id; number = n.number; entry = entry_of n.badge.views } };
+    ghost view = { λ n. record { book = n.badge.table_id; number = n.number; entry = first_entry n.badge.views } };
 
     ghost invariant = { λ n. (n.number < 2 ^ 58) × (e : Drawn) × (n.badge.views ≡ note_of n.number (Some e) ∷ []) };
 }

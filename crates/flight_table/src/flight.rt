@@ -49,7 +49,8 @@ fn next_hand(
     slots: usize,
     worker: usize,
 ) -> Result<Hand, OutOfMemory>
-    requires seat { (seat.old.table_id ≡ (arc_value deck.now).shared.table_id) × (seat.old.table_id.words ≡ slots) × (seat.old.table_id.slots ≡ slots) × (0 < slots) }
+    requires seat { (seat.old.table_id ≡ (arc_value deck.now).shared.table_id) × (seat.old.table_id.words ≡ slots)
+        × (seat.old.table_id.slots ≡ slots) × (0 < slots) }
     requires view { (seat.old.me ≡ (opened seat.old.me.0.about worker, [])) × (worker < 8) }
     ensures seat { (seat.new.table_id ≡ seat.old.table_id) × (seat.new.me.1 ≡ []) }
     ensures ok { OnOk result (seat.new.me ≡ (opened seat.old.me.0.about (worker + 1), [])) }

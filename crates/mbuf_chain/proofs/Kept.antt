@@ -6,6 +6,8 @@ use Rattle.std.proofs.lemmas.List.Elements.{All-head, All-tail, All-set, All-get
 use Rattle.std.proofs.lemmas.Grind.{flat_map-append}
 use mathlib.Core.List.{append-nil}
 use Rattle.seg_list.specs.Buffer.{Buffer, IsWhole, with_data, bytes_of, cut_at, relaid_at}
+use Rattle.seg_list.specs.declared.list.TheConstants.{MAX_SEGS}
+use Rattle.seg_list.specs.declared.seg.TheConstants.{SEG_SIZE}
 use Rattle.crypto_model.specs.Chain.{laid_at}
 use Rattle.crypto_model.proofs.Laid.{length-laid_at}
 use Rattle.mbuf_chain.specs.Chain.{packet_of, with_packet}
@@ -15,7 +17,7 @@ use Rattle.mbuf_chain.proofs.Pieces.{length-bytes_of, body_laid}
 use Rattle.mbuf_chain.specs.Piece.{LiesAt}
 
 -- however the bytes of a buffer are cut, they are as many
-pub whole_cut : (k j : ℕ) (xs : List ℕ) → length xs ≡ 2048 → IsWhole (cut_at k j xs)
+pub whole_cut : (k j : ℕ) (xs : List ℕ) → length xs ≡ SEG_SIZE → IsWhole (cut_at k j xs)
 whole_cut k j xs e =
     omega (arith, e, length-take k xs, length-drop k xs, length-take j (drop k xs), length-drop j (drop k xs))
 
@@ -26,14 +28,14 @@ pub whole_laid : (at : ℕ) (b : Buffer) (w : List ℕ) → IsWhole b → IsWhol
 whole_laid at b w whole =
     whole_cut (length b.before) (length b.body) (laid_at (length b.before + at) w (bytes_of b)) (length-laid_at (length b.before + at) w (bytes_of b) ∙ length-bytes_of b ∙ whole)
 
-pub most_bytes : (c : List Buffer) → All IsWhole c → length (packet_of c) ≤ 2048 * length c
+pub most_bytes : (c : List Buffer) → All IsWhole c → length (packet_of c) ≤ SEG_SIZE * length c
 most_bytes [] h = omega arith
 most_bytes (b ∷ bs) h =
     let k = most_bytes bs (All-tail IsWhole b bs h) in
-    let w : length b.before + length b.body + length b.after ≡ 2048 = All-head IsWhole b bs h in
+    let w : length b.before + length b.body + length b.after ≡ SEG_SIZE = All-head IsWhole b bs h in
     omega (arith, k, w, length-append b.body (packet_of bs))
 
-pub kept : (c : List Buffer) (len : ℕ) → 0 < length c → length c ≤ 256 → All IsWhole c → len ≡ length (packet_of c) → IsKept c len
+pub kept : (c : List Buffer) (len : ℕ) → 0 < length c → length c ≤ MAX_SEGS → All IsWhole c → len ≡ length (packet_of c) → IsKept c len
 kept c len some most whole is = record { some = some; most = most; whole = whole; is = is; short = omega (arith, is, most, most_bytes c whole) }
 
 -- the bytes with another segment in the place of number i
@@ -69,15 +71,23 @@ pub kept_laid : (c : List Buffer) (len off i at : ℕ) (b : Buffer) (w : List �
 kept_laid c len off i at b w h lies =
     kept_set c len len i b (relaid_at at b w) h lies.within lies.buffer (whole_laid at b w (whole_at c len i b h lies.within (sym lies.buffer))) (omega (arith, body_laid at b w))
 
-pub kept_joined : (c d : List Buffer) (n m : ℕ) → IsKept c n → IsKept d m → length c + length d ≤ 256 → IsKept (c ++ d) (n + m)
+pub kept_joined : (c d : List Buffer) (n m : ℕ) → IsKept c n → IsKept d m → length c + length d ≤ MAX_SEGS → IsKept (c ++ d) (n + m)
 kept_joined c d n m h k few =
     kept (c ++ d) (n + m) (omega (arith, length-append c d, h.some)) (omega (arith, length-append c d)) (All-append IsWhole c d h.whole k.whole)
     (omega (arith, h.is, k.is, length-append (packet_of c) (packet_of d)) ∙ ap length (sym (flat_map-append (λ (b : Buffer). b.body) c d)))
 
-pub kept_pushed : (c : List Buffer) (n : ℕ) (b : Buffer) → IsKept c n → length c < 256 → IsWhole b → IsKept (c ++ b ∷ []) (n + length b.body)
+-- one segment more
+pub one_more : (c : List Buffer) (n : ℕ) (b : Buffer) (m : ℕ) → n ≡ length (packet_of c) → All IsWhole c → m ≡ length b.body → IsWhole b
+    → (n + m ≡ length (packet_of (c ++ b ∷ []))) × All IsWhole (c ++ b ∷ [])
+one_more c n b m is h more whole = (
+  omega (arith, is, more, length-append (packet_of c) (b.body ++ []), ap length (append-nil b.body)) ∙ ap length (sym (flat_map-append (λ (x : Buffer). x.body) c (b ∷ []))),
+  All-push IsWhole c b h whole,
+)
+
+pub kept_pushed : (c : List Buffer) (n : ℕ) (b : Buffer) → IsKept c n → length c < MAX_SEGS → IsWhole b → IsKept (c ++ b ∷ []) (n + length b.body)
 kept_pushed c n b h few whole =
-    kept (c ++ b ∷ []) (n + length b.body) (omega (arith, length-append c (b ∷ []))) (omega (arith, length-append c (b ∷ []))) (All-push IsWhole c b h.whole whole)
-    (omega (arith, h.is, length-append (packet_of c) (b.body ++ []), ap length (append-nil b.body)) ∙ ap length (sym (flat_map-append (λ (x : Buffer). x.body) c (b ∷ []))))
+    let e = one_more c n b (length b.body) h.is h.whole refl whole in
+    kept (c ++ b ∷ []) (n + length b.body) (omega (arith, length-append c (b ∷ []))) (omega (arith, length-append c (b ∷ []))) e.1 e.0
 
 -- n bytes more in segment i, whatever they are
 pub kept_grown : (c : List Buffer) (len i k j n at : ℕ) (b x : Buffer) (w : List ℕ) → IsKept c len → i < length c → b ≡ slice_index_or c i b → x ≡ cut_at k j (bytes_of b)
@@ -111,7 +121,7 @@ whole_with : (c : List Buffer) (p : List ℕ) → length p ≡ length (packet_of
 whole_with [] p e h = h
 whole_with (b ∷ bs) p e h =
     let k = length-append b.body (packet_of bs) in
-    let w : length b.before + length b.body + length b.after ≡ 2048 = All-head IsWhole b bs h in
+    let w : length b.before + length b.body + length b.after ≡ SEG_SIZE = All-head IsWhole b bs h in
     let same = length-take (length b.body) p in
     All-cons IsWhole (with_data b (take (length b.body) p)) (with_packet bs (drop (length b.body) p)) (omega (arith, w, same, e, k))
     (whole_with bs (drop (length b.body) p) (omega (arith, e, k, length-drop (length b.body) p)) (All-tail IsWhole b bs h))

@@ -9,3 +9,4 @@ pub mod EndCuts
 pub mod Walks
 pub mod WalksBy
 pub mod EndPackets
+pub mod Crosses

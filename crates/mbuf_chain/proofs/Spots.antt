@@ -1,11 +1,11 @@
 -- A place in a chain that is walked: what lies there.
-use Rattle.std.proofs.Common.{◌≡◌, ℕ, zero, suc, ◌+◌, ◌-◌, ◌<◌, ◌≤◌, List, [], ◌∷◌, ◌++◌, length, take, drop, min, slice_set, slice_index_or, refl, sym, ap, ◌∙◌, arith, length-append}
+use Rattle.std.proofs.Common.{◌≡◌, ℕ, ◌+◌, ◌<◌, ◌≤◌, List, [], ◌∷◌, ◌++◌, length, take, drop, slice_set, slice_index_or, refl, sym, ap, ◌∙◌, arith, length-append}
 use mathlib.Core.List.{append-nil}
 use Rattle.std.proofs.lemmas.Grind.{flat_map-append}
 use Rattle.std.proofs.Math.Seq.{drop-append-add}
 use Rattle.seg_list.specs.Buffer.{Buffer, Walked, relaid_at}
 use Rattle.mbuf_chain.specs.Chain.{packet_of}
-use Rattle.mbuf_chain.specs.Cursors.{At, Stands, at_of}
+use Rattle.mbuf_chain.specs.Cursors.{Stands, at_of}
 use Rattle.mbuf_chain.specs.Piece.{LiesAt, piece_laid}
 use Rattle.mbuf_chain.specs.Pieces.{joined, pieces_of}
 use Rattle.mbuf_chain.proofs.Pieces.{piece_laid-at}

@@ -1,5 +1,5 @@
 -- A place in a packet, from which it is written.
-use Rattle.std.specs.Prelude.{◌≡◌, ◌⊎◌, ℕ, ◌+◌, ◌<◌, List, [], ◌∷◌, ◌++◌, length}
+use Rattle.std.specs.Prelude.{◌≡◌, ℕ, ◌+◌, ◌<◌, List, [], ◌∷◌, ◌++◌, length}
 use Rattle.crypto_model.specs.Chain.{laid_at}
 use Rattle.seg_list.specs.Buffer.{Buffer, Walked}
 use Rattle.mbuf_chain.specs.Chain.{packet_of, with_packet}

@@ -2,13 +2,14 @@
 use Rattle.std.specs.Prelude.{◌≡◌, ℕ, ◌-◌, ◌<◌, ◌≤◌, List, [], ◌∷◌, ◌++◌, length}
 use Rattle.std.specs.List.{All}
 use Rattle.seg_list.specs.Buffer.{Buffer, IsWhole}
+use Rattle.seg_list.specs.declared.list.TheConstants.{MAX_SEGS}
 use Rattle.mbuf_chain.specs.Chain.{packet_of}
 use Rattle.mbuf_chain.specs.Ends.{cut_back, cut_to}
 
--- 1 to 256 segments, and len bytes in them
+-- at least one segment, and len bytes in them
 pub record IsKept (c : List Buffer) (len : ℕ) : Type 0 where
   pub some : 0 < length c
-  pub most : length c ≤ 256
+  pub most : length c ≤ MAX_SEGS
   pub whole : All IsWhole c
   pub is : len ≡ length (packet_of c)
   pub short : len ≤ 524288

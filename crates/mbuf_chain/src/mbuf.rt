@@ -18,15 +18,12 @@ use crate::cursor::Cursor;
 use crate::piece_iter::{PieceIter, copy_out};
 use crate::work::{Work, take_in};
 use crate::{AddRefused, NoHeadroom, NoTailroom, TooManySegs, TooShort};
-use seg_list::{Seg, SegList};
+use seg_list::{MAX_SEGS, SEG_SIZE, Seg, SegList, Steps};
 use std::alloc::Global;
-use std::marker::Model;
+use std::marker::{Brand, Model};
+use std::sync::ledger::{Blank, Ledger};
 
-const MOST_SEGS: usize = 256;
-
-const SEG_SIZE: usize = 2048;
-
-/// A packet of 1 to 256 segments, which contracts see as the list of their buffers. Its bytes are the
+/// A packet of 1 to [`MAX_SEGS`] segments, which contracts see as the list of their buffers. Its bytes are the
 /// data of its segments, one after another.
 #[derive(Drop)]
 pub struct Mbuf {
@@ -89,7 +86,7 @@ impl Mbuf {
     /// How many segments there are.
     pub fn seg_count(&self) -> usize
         ensures value { result ≡ length self.now }
-        ensures range { (0 < result) × (result ≤ 256) }
+        ensures range { (0 < result) × (result ≤ MAX_SEGS) }
     {
         self.segs.len()
     }
@@ -200,28 +197,28 @@ impl Mbuf {
 
     /// Links the segments of `other` behind these. Takes no memory.
     pub fn chain(&mut self, other: Mbuf) -> Result<(), TooManySegs>
-        ensures which { IsErr result ↔ 256 < length self.old + length other }
+        ensures which { IsErr result ↔ MAX_SEGS < length self.old + length other }
         ensures linked { OnOk result (self.new ≡ self.old ++ other) }
         ensures packet { OnOk result (packet_of self.new ≡ packet_of self.old ++ packet_of other) }
         ensures refused { IfErr result (λ e. (e.0 ≡ other) × (self.new ≡ self.old)) }
     {
-        if MOST_SEGS < self.segs.len() + other.segs.len() {
+        if MAX_SEGS < self.segs.len() + other.segs.len() {
             return Err(TooManySegs(other));
         }
         let Mbuf { segs, len } = other;
-        self.segs.append(segs);
+        counted::<Brand>(&mut self.segs, segs, Blank::new(1));
         self.len += len;
         Ok(())
     }
 
     /// Links one segment behind these.
     pub fn add_seg(&mut self, seg: Seg) -> Result<(), AddRefused>
-        ensures which { IsErrOf result (AddRefused.TooManySegs seg) ↔ length self.old ≡ 256 }
+        ensures which { IsErrOf result (AddRefused.TooManySegs seg) ↔ length self.old ≡ MAX_SEGS }
         ensures added { OnOk result (self.new ≡ self.old ++ seg ∷ []) }
         ensures packet { OnOk result (packet_of self.new ≡ packet_of self.old ++ seg.body) }
         ensures refused { IfErr result (λ e. (seg_of e ≡ seg) × (self.new ≡ self.old)) }
     {
-        if self.segs.len() == MOST_SEGS {
+        if self.segs.len() == MAX_SEGS {
             return Err(AddRefused::TooManySegs(seg));
         }
         let len = seg.len();
@@ -308,6 +305,17 @@ impl Mbuf {
     }
 }
 
+// Appends under a counter of its own.
+fn counted<L: Ledger>(segs: &mut SegList, other: SegList, blank: Blank)
+    requires room { length segs.old + length other ≤ MAX_SEGS }
+    requires name { blank.name ≡ L.name }
+    requires parts { blank.parts ≡ L.parts }
+    requires some { 0 < L.parts }
+    ensures { segs.new ≡ segs.old ++ other }
+{
+    segs.append(other, &mut Steps::<L>::start(blank));
+}
+
 fn zero(piece: &mut [u8])
     ensures { piece.new ≡ replicate (length piece.old) 0 }
 {
@@ -320,7 +328,7 @@ fn zero(piece: &mut [u8])
 fn bytes_in(segs: &SegList) -> usize
     ensures bytes { result ≡ length (packet_of segs.now) }
     ensures whole { All IsWhole segs.now }
-    ensures most { length segs.now ≤ 256 }
+    ensures most { length segs.now ≤ MAX_SEGS }
 {
     let mut all = 0usize;
     let _most = segs.len();

@@ -4,7 +4,7 @@ ghost use Rattle.std.specs.Result.{IsErrOf};
 ghost use Rattle.mbuf_chain.specs.Emptied.{IsEmptied};
 ghost use Rattle.mbuf_chain.specs.declared.store.NoSeg.TheVariants.{Empty};
 
-use seg_list::Seg;
+use seg_list::{SEG_SIZE, Seg};
 use std::alloc::Global;
 use thiserror::Error;
 
@@ -48,7 +48,7 @@ impl SegStore for FreshSegs {
     fn take(&mut self) -> Result<Seg, NoSeg>
         ensures emptied { IfOk result IsEmptied }
         ensures endless { Unit {0} → ¬ (IsErrOf result Empty) }
-        ensures fresh { IfOk result (λ s. s ≡ record { before = []; body = []; after = replicate 2048 0 }) }
+        ensures fresh { IfOk result (λ s. s ≡ record { before = []; body = []; after = replicate SEG_SIZE 0 }) }
     {
         match Seg::new(self.alloc, 0) {
             Ok(seg) => Ok(seg),

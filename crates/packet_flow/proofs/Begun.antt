@@ -194,7 +194,7 @@ whole_stop OutOfMemory no_fault no_want = absurd (no_want refl)
 -- Records were read behind those that waited, and the passage is now q.
 pub read_on : (plan : Plan) (b : Before) (s_tells k_tells : Type 0) (p q : Passage) (o : Outside) (w : Ahead) (big : Bool) (left left' wrote : List ℕ) (result : Option ReadStop)
     → b.big ≡ big → o.left ≡ left → o.written ≡ wrote → IsUnderway plan b s_tells k_tells p o → w ≡ p.window → p.window.stop ≡ None
-    → q ≡ record p { window = q.window; store = q.store } → q.window.next ≡ w.next → q.window.stop ≡ result
+    → q ≡ record p { window = q.window } → q.window.next ≡ w.next → q.window.stop ≡ result
     → (s_tells → (bytes : List ℕ) (given : List Rec) → HasRead big bytes (given ++ w.waiting) w.place left → GoesOn big bytes (given ++ q.window.waiting) q.window.place left' result)
     → ((stop : ReadStop) → result ≡ Some stop → IsWholeStop stop × (s_tells → stop ≡ ReadStop.End → left' ≡ []))
     → IsInRange q.window → IsUnderway plan b s_tells k_tells q (record o { left = left'; written = wrote })

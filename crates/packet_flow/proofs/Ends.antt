@@ -26,7 +26,7 @@ use Rattle.packet_flow.specs.Reads.{GoesOn, IsWholeStop, ReadsAs}
 use Rattle.packet_flow.specs.Flowed.{CutAt, Flowed, IsWrittenBy, answer_bytes}
 use Rattle.dev_core.specs.Calls.{Call}
 use Rattle.dev_core.specs.Offers.{Flows, taken_by}
-use Rattle.packet_flow.specs.Passage.{Before, Outside, HasTaken, IsEarly, IsUnderway, EndsAs}
+use Rattle.packet_flow.specs.Passage.{Before, Outside, TellsTaken, IsEarly, IsUnderway, EndsAs}
 use Rattle.packet_flow.proofs.InSlots.{length-SlotsSay}
 use Rattle.packet_flow.proofs.Answers.{answered_from-append, counts_first, few_done, length-answered_from, within, writes_first}
 use Rattle.packet_flow.proofs.Numbers.{entries_behind, entries_behind-none, entries_from-append}
@@ -143,7 +143,7 @@ cut_before_more big plan used more n base new within cut =
 -- a record was cut in writing: n stand whole of the answers to the records that were begun
 pub ends_cut : (plan : Plan) (b : Before) (s_tells k_tells : Type 0) (o : Outside) (counts : Counts) (used : List Rec) (taken queued : List LogEntry) (n : ℕ)
     → (s_tells → (rs : List Rec) (rest : Rest) → Records b.big first_place b.bytes rs rest → (more : List Rec) × (rs ≡ used ++ more))
-    → taken ++ queued ≡ entries_from plan 0 used → HasTaken b taken o.enqueued o.log → length taken ≡ taken_by o.past
+    → taken ++ queued ≡ entries_from plan 0 used → TellsTaken b taken o.enqueued o.log → length taken ≡ taken_by o.past
     → (s_tells → (rs : List Rec) (rest : Rest) → Records b.big first_place b.bytes rs rest → Flows b.size (entries_from plan 0 rs) o.past)
     → n ≤ length used → counts ≡ counts_of (take n (answered_from plan 0 used))
     → (k_tells → CutAt b.big (answered_from plan 0 used) n b.base o.written) → EndsAs plan b s_tells k_tells WriteFault counts o

@@ -27,7 +27,7 @@ use Rattle.std.proofs.Math.Seq.{take-append_seam, drop-append_seam}
 use Rattle.dev_core.specs.Calls.{Call}
 use Rattle.dev_core.specs.Offers.{Flows, IsDrained, next_burst, rest_of_burst, taken_by}
 use Rattle.packet_flow.specs.Turns.{IsAt, OnlyAsked, with_offer}
-use Rattle.packet_flow.specs.Passage.{Before, Outside, HasTaken, IsFilled, IsUnderway, EndsAs, IsNew}
+use Rattle.packet_flow.specs.Passage.{Before, Outside, TellsTaken, IsFilled, IsUnderway, EndsAs, IsUnbegun}
 use Rattle.packet_flow.specs.Reads.{GoesOn, HasRead, IsWholeStop}
 use Rattle.packet_flow.specs.Numbered.{Numbered}
 use Rattle.packet_flow.specs.Slots.{StandFor, SlotsSay, WaitsAtFront, open_numbers}
@@ -66,8 +66,8 @@ log_on None taken more log log' is now = now ∙ ap (option_map (λ (l : List Lo
 log_on (Some l) taken more log log' is now = now ∙ ap (option_map (λ (l : List LogEntry). l ++ more)) is
 
 pub device_on : (b : Before) (taken : List LogEntry) (n : ℕ) (burst : Burst (Op Card)) (enqueued enqueued' : ℕ) (log log' : Option (List LogEntry)) → n ≤ length burst.ops
-    → HasTaken b taken enqueued log → enqueued' ≡ capped (enqueued + n) → log' ≡ option_map (λ l. l ++ front_log n burst) log
-    → HasTaken b (taken ++ front_log n burst) enqueued' log'
+    → TellsTaken b taken enqueued log → enqueued' ≡ capped (enqueued + n) → log' ≡ option_map (λ l. l ++ front_log n burst) log
+    → TellsTaken b (taken ++ front_log n burst) enqueued' log'
 device_on b taken n burst enqueued enqueued' log log' within has now told = record {
   enqueued_is = omega (arith, has.enqueued_is, now, length-append taken (front_log n burst), length-front_log n burst within);
   log_is = log_on b.log taken (front_log n burst) log log' has.log_is told;
@@ -162,7 +162,7 @@ fewer_left held held' enqueued enqueued' stalled moved r is few few' balance wit
 -- ---- before the first turn
 
 -- nothing was begun
-pub ends_unbegun : (plan : Plan) (b : Before) (s_tells k_tells : Type 0) (o : Outside) (counts : Counts) → o.past ≡ [] → HasTaken b [] o.enqueued o.log → o.written ≡ b.base → counts ≡ counts_of []
+pub ends_unbegun : (plan : Plan) (b : Before) (s_tells k_tells : Type 0) (o : Outside) (counts : Counts) → o.past ≡ [] → TellsTaken b [] o.enqueued o.log → o.written ≡ b.base → counts ≡ counts_of []
     → EndsAs plan b s_tells k_tells flow_end.OutOfMemory counts o
 ends_unbegun plan b s_tells k_tells o counts no_call device written same told tells rs rest all = (
   [],
@@ -190,7 +190,7 @@ none_read : (big : Bool) (bytes left : List ℕ) (w : Ahead) → w ≡ fresh_win
 none_read big bytes left w is left_is =
     subst (λ (x : Ahead). GoesOn big bytes ([] ++ x.waiting) x.place left x.stop) (sym is) (subst (HasRead big bytes [] first_place) (sym left_is) (begun big bytes))
 
-pub new_underway : (plan : Plan) (b : Before) (s_tells k_tells : Type 0) (size : ℕ) (p : Passage) (o : Outside) → 1 ≤ size → b.size ≡ size → o.past ≡ [] → IsNew size p → HasTaken b [] o.enqueued o.log
+pub new_underway : (plan : Plan) (b : Before) (s_tells k_tells : Type 0) (size : ℕ) (p : Passage) (o : Outside) → 1 ≤ size → b.size ≡ size → o.past ≡ [] → IsUnbegun size p → TellsTaken b [] o.enqueued o.log
     → o.left ≡ b.bytes → o.written ≡ b.base → o.held ≡ [] → IsUnderway plan b s_tells k_tells p o
 new_underway plan b s_tells k_tells size p o some size_is no_call new device left written held =
     let burst : p.burst.ops ≡ [] = ap (λ (x : Burst (Op Card)). x.ops) new.burst in

@@ -43,7 +43,8 @@ pub record IsWholeFlow (plan : Plan) (rs : List Rec) (rest : Rest) (end : FlowEn
   pub taken : ops ≡ entries_from plan 0 rs
 
 -- The first n records of these were answered and written, and the driver has taken these operations.
-pub record Flowed (plan : Plan) (big : Bool) (rs : List Rec) (rest : Rest) (end : FlowEnd) (counts : Counts) (old new : List ℕ) (taken : List LogEntry) : Type 0 where
+pub record Flowed (plan : Plan) (big : Bool) (rs : List Rec) (rest : Rest) (end : FlowEnd) (counts : Counts) (old new : List ℕ)
+    (taken : List LogEntry) : Type 0 where
   pub n : ℕ
   pub within : n ≤ length rs
   pub counts_are : counts ≡ counts_of (take n (answered_from plan 0 rs))

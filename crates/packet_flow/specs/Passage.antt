@@ -49,7 +49,7 @@ abbrev pub outside : (left written : List ℕ) → (held : List (Entry Card)) �
 outside left written held stats log past = record { left = left; written = written; held = held; enqueued = stats.enqueued; log = log; past = past }
 
 -- the driver counts these operations, and its log tells them, if it tells any
-pub record HasTaken (b : Before) (taken : List LogEntry) (enqueued : ℕ) (log : Option (List LogEntry)) : Type 0 where
+pub record TellsTaken (b : Before) (taken : List LogEntry) (enqueued : ℕ) (log : Option (List LogEntry)) : Type 0 where
   pub enqueued_is : enqueued ≡ capped (length taken)
   pub log_is : log ≡ option_map (λ l. taken) b.log
 
@@ -67,7 +67,7 @@ pub record IsUnderway (plan : Plan) (b : Before) (s_tells k_tells : Type 0) (p :
   pub counts : p.counts ≡ counts_of (answers_to plan done)
   pub made : p.made ≡ length (entries_from plan 0 used)
   pub queued : taken ++ map log_entry p.burst.ops ≡ entries_from plan 0 used
-  pub device : HasTaken b taken o.enqueued o.log
+  pub device : TellsTaken b taken o.enqueued o.log
   pub few : length o.held ≤ length taken
   pub fresh : All IsFresh p.burst.ops
   pub front : WaitsAtFront p.slots
@@ -77,21 +77,23 @@ pub record IsUnderway (plan : Plan) (b : Before) (s_tells k_tells : Type 0) (p :
   pub back : p.back.ops ≡ []
   pub sizes : (p.burst.cap ≡ b.size) × (p.back.cap ≡ b.size) × (0 < b.size)
   pub took : length taken ≡ taken_by o.past
-  pub offers : (more : List LogEntry) → ((stop : ReadStop) → p.window.stop ≡ Some stop → p.window.waiting ≡ [] → more ≡ []) → Flows b.size (entries_from plan 0 used ++ more) o.past
+  pub offers : (more : List LogEntry) → ((stop : ReadStop) → p.window.stop ≡ Some stop → p.window.waiting ≡ [] → more ≡ [])
+      → Flows b.size (entries_from plan 0 used ++ more) o.past
 
 -- It ended so, by every reading of the capture.
 abbrev pub EndsAs : Plan → Before → Type 0 → Type 0 → FlowEnd → Counts → Outside → Type 0
 EndsAs plan b s_tells k_tells end counts o = s_tells → k_tells → (rs : List Rec) (rest : Rest) → Records b.big first_place b.bytes rs rest
-    → (taken : List LogEntry) × HasTaken b taken o.enqueued o.log × Flowed plan b.big rs rest end counts b.base o.written taken
+    → (taken : List LogEntry) × TellsTaken b taken o.enqueued o.log × Flowed plan b.big rs rest end counts b.base o.written taken
     × (length taken ≡ taken_by o.past) × Flows b.size (entries_from plan 0 rs) o.past
 
 -- The burst is as it was, where something was left of it. Else it is full, or the capture ended.
 abbrev pub IsFilled : Passage → Passage → Type 0
 IsFilled old new = ((0 < length old.burst.ops) × (new.burst ≡ old.burst))
-    ⊎ ((old.burst.ops ≡ []) × (length new.burst.ops ≤ new.burst.cap) × ((length new.burst.ops ≡ new.burst.cap) ⊎ ((new.window.waiting ≡ []) × (stop : ReadStop) × (new.window.stop ≡ Some stop))))
+    ⊎ ((old.burst.ops ≡ []) × (length new.burst.ops ≤ new.burst.cap)
+    × ((length new.burst.ops ≡ new.burst.cap) ⊎ ((new.window.waiting ≡ []) × (stop : ReadStop) × (new.window.stop ≡ Some stop))))
 
 -- nothing is read yet
-pub record IsNew (size : ℕ) (p : Passage) : Type 0 where
+pub record IsUnbegun (size : ℕ) (p : Passage) : Type 0 where
   pub window : p.window ≡ fresh_window
   pub slots : p.slots ≡ []
   pub made : p.made ≡ 0

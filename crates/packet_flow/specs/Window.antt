@@ -1,8 +1,8 @@
 -- What a window has ahead.
-use Rattle.std.specs.Prelude.{◌≤◌, ◌<◌, ◌+◌, ◌*◌, ◌^◌, ℕ, List, [], length, map, Option, None}
+use Rattle.std.specs.Prelude.{◌≤◌, ◌<◌, ◌+◌, ◌^◌, ℕ, List, [], length, map, Option, None}
 use Rattle.std.specs.List.{All}
 use Rattle.capture_io.specs.Capture.{Rec, first_place, view}
-use Rattle.capture_io.specs.Limits.{IsSmall}
+use Rattle.capture_io.specs.Limits.{IsPlaced, IsSmall}
 use Rattle.capture_io.specs.declared.header.Place.{Place}
 use Rattle.capture_io.specs.declared.header.ReadStop.{ReadStop}
 use Rattle.capture_io.specs.declared.header.Record.{Record}
@@ -27,8 +27,8 @@ abbrev pub views : List Record → List Rec
 views rs = map view rs
 
 -- what holds of the records in memory, and of the place
-pub record IsKept (place : Place) (waiting : List Record) (next : ℕ) : Type 0 where
+pub record IsWellPlaced (place : Place) (waiting : List Record) (next : ℕ) : Type 0 where
   pub count : next + length waiting ≤ place.records
   pub range : place.records < 2 ^ 32
-  pub at : place.at ≤ 24 + 262160 * place.records
+  pub at : IsPlaced place
   pub small : All IsSmall waiting

@@ -14,7 +14,8 @@ use Rattle.packet_flow.specs.Numbered.{Numbered, answers_to}
 use Rattle.packet_flow.specs.Slots.{StandFor}
 
 -- Of these packets some in front are written and counted, and the slots stand for the others.
-pub record HasWritten (plan : Plan) (ps : List Numbered) (entries : List (Entry Card)) (ss : List Slot) (before after : Counts) (Says : (gone left : List Numbered) → Type 0) : Type 0 where
+pub record HasWritten (plan : Plan) (ps : List Numbered) (entries : List (Entry Card)) (ss : List Slot) (before after : Counts)
+    (Says : (gone left : List Numbered) → Type 0) : Type 0 where
   pub gone : List Numbered
   pub left : List Numbered
   pub split : ps ≡ gone ++ left

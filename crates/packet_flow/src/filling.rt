@@ -14,11 +14,9 @@ use crate::window::Packet;
 use capture_io::{Header, ReadStop, Sink, Source};
 use crypto_model::OutOfMemory;
 use crypto_op::{Card, OpBurst};
+use mbuf_chain::SegStore;
 use packet_plan::ReadyPlan;
 use std::alloc::Global;
-
-// So many packets are read before the next of them is begun.
-const WINDOW: usize = 16;
 
 // Begins a packet: it gets the next slot and, where it needs one, an operation of the burst, whose number is how many
 // were made before.
@@ -43,15 +41,19 @@ fn begin(
     Ok(())
 }
 
-// Begins the first record that waits or, where none does, reads on.
-fn advance<S: Source, K: Sink>(
+// Begins the first record that waits or, where none does, reads a window of `size`.
+fn advance<S: Source, P: SegStore, K: Sink>(
     alloc: Global,
     plan: &ReadyPlan,
+    size: usize,
     header: &Header,
     src: &mut S,
+    store: &mut P,
     out: &mut K,
     passage: &mut Passage,
 ) -> Result<(), FlowEnd>
+    requires endless { P.endless }
+    requires size { 1 ≤ size }
     requires underway { (b : Before) × (o : Outside) × (b.big ≡ header.now.big) × (o.left ≡ S.left src.old) × (o.written ≡ K.written out.old)
         × IsUnderway plan.now b S.tells K.tells passage.old o }
     requires room { length passage.old.burst.ops < passage.old.burst.cap }
@@ -72,10 +74,7 @@ fn advance<S: Source, K: Sink>(
     ensures never { ¬ (result ≡ Err FlowEnd.Stalled) }
 {
     let Some(packet) = passage.window.take() else {
-        let read = passage
-            .window
-            .read(alloc, src, header, &mut passage.store, WINDOW);
-        let Some(stop) = read else {
+        let Some(stop) = passage.window.read(alloc, src, header, store, size) else {
             return Ok(());
         };
         return match stop {
@@ -96,16 +95,20 @@ fn advance<S: Source, K: Sink>(
     Ok(())
 }
 
-/// Where the burst is empty, begins records until it is full or the capture ends. Records are written as soon as
-/// they are ready and all before them are written.
-pub(crate) fn fill<S: Source, K: Sink>(
+/// Where the burst is empty, begins records until it is full or the capture ends, which are read in windows of `size`.
+/// They are written as soon as they are ready and all before them are written.
+pub(crate) fn fill<S: Source, P: SegStore, K: Sink>(
     alloc: Global,
     plan: &ReadyPlan,
+    size: usize,
     header: &Header,
     src: &mut S,
+    store: &mut P,
     out: &mut K,
     passage: &mut Passage,
 ) -> Result<(), FlowEnd>
+    requires endless { P.endless }
+    requires size { 1 ≤ size }
     requires underway { (b : Before) × (o : Outside) × (b.big ≡ header.now.big) × (o.left ≡ S.left src.old) × (o.written ≡ K.written out.old)
         × IsUnderway plan.now b S.tells K.tells passage.old o }
     ensures underway { (b : Before) (o : Outside) → b.big ≡ header.now.big → o.left ≡ S.left src.old → o.written ≡ K.written out.old
@@ -115,7 +118,8 @@ pub(crate) fn fill<S: Source, K: Sink>(
         → IsUnderway plan.now b S.tells K.tells passage.old o
         → IfErr result (λ end. EndsAs plan.now b S.tells K.tells end passage.new.counts (record o { left = S.left src.new; written = K.written out.new })) }
     ensures filled { OnOk result (IsFilled passage.old passage.new) }
-    ensures full { OnOk result ((0 < length passage.new.burst.ops) ⊎ ((passage.new.window.waiting ≡ []) × (stop : ReadStop) × (passage.new.window.stop ≡ Some stop))) }
+    ensures full { OnOk result ((0 < length passage.new.burst.ops)
+        ⊎ ((passage.new.window.waiting ≡ []) × (stop : ReadStop) × (passage.new.window.stop ≡ Some stop))) }
     ensures read_later { S.faults src.old ≤ S.faults src.new }
     ensures read_cause { result ≡ Err (FlowEnd.Stopped ReadStop.Fault) → Rose (S.faults src.old) (S.faults src.new) }
     ensures write_later { K.faults out.old ≤ K.faults out.new }
@@ -130,7 +134,7 @@ pub(crate) fn fill<S: Source, K: Sink>(
     while passage.burst.room() > 0
         && (!passage.window.is_empty() || passage.window.stop().is_none())
     {
-        advance(alloc, plan, header, src, out, passage)?;
+        advance(alloc, plan, size, header, src, store, out, passage)?;
     }
     Ok(())
 }

@@ -16,6 +16,7 @@ use capture_io::{Header, ReadStop, Sink, Source, WriteFault};
 use crypto_model::OutOfMemory;
 use crypto_op::{Card, MAX_OPS};
 use dev_core::Driver;
+use mbuf_chain::SegStore;
 use packet_plan::ReadyPlan;
 use std::alloc::Global;
 
@@ -56,15 +57,19 @@ impl From<WriteFault> for FlowEnd {
 }
 
 // Fills the burst where it is empty, and lets the driver take one turn: how many operations moved.
-fn step<S: Source, K: Sink, D: Driver<Card>>(
+fn step<S: Source, P: SegStore, K: Sink, D: Driver<Card>>(
     alloc: Global,
     plan: &ReadyPlan,
+    window: usize,
     header: &Header,
     src: &mut S,
+    store: &mut P,
     out: &mut K,
     dev: &mut D,
     passage: &mut Passage,
 ) -> Result<u64, FlowEnd>
+    requires endless { P.endless }
+    requires window { 1 ≤ window }
     requires sessions { D.sessions dev.old ≡ sessions_of plan.now }
     requires works { NeverIdle D.admits D.held dev.old }
     requires underway { (b : Before) × (past : List Call) × (b.big ≡ header.now.big) × IsAt past passage.old.burst.ops
@@ -95,7 +100,7 @@ fn step<S: Source, K: Sink, D: Driver<Card>>(
     ensures write_cause { result ≡ Err FlowEnd.WriteFault → Rose (K.faults out.old) (K.faults out.new) }
     ensures write_steady { K.steady → ¬ (result ≡ Err FlowEnd.WriteFault) → K.faults out.new ≡ K.faults out.old }
 {
-    fill(alloc, plan, header, src, out, passage)?;
+    fill(alloc, plan, window, header, src, store, out, passage)?;
     if passage.burst.len() == 0 && passage.slots.is_empty() {
         return match passage.window.stop() {
             Some(stop) => Err(FlowEnd::Stopped(stop)),
@@ -113,6 +118,13 @@ fn step<S: Source, K: Sink, D: Driver<Card>>(
     Ok(accepted as u64 + returned as u64)
 }
 
+/// How much is taken at once: so many packets are read into a window, and so many operations are offered in a burst.
+#[derive(Clone, Copy, Debug, PartialEq, Eq)]
+pub struct Sizes {
+    pub window: usize,
+    pub burst: usize,
+}
+
 /// How a flow ended, and what was written by then.
 #[derive(Clone, Copy, Debug, PartialEq, Eq)]
 pub struct Flow {
@@ -121,21 +133,25 @@ pub struct Flow {
 }
 
 /// Sends the packets of a capture, behind its header, through a driver: the plan makes operations of them, numbered
-/// from 0, which are offered in bursts of at most `size`, the rest of a burst before a new one is begun, and the records
-/// are written in their order as soon as they are answered. The driver holds nothing, and has the plan's sessions.
+/// from 0, which are offered in bursts, the rest of a burst before a new one is begun, and the records are written in their
+/// order as soon as they are answered. Their segments come from the store. The driver holds nothing, and has the plan's
+/// sessions.
 ///
 /// A turn that moves nothing is one in which the driver stalled. It may do so `PATIENCE` times, and as often again for each
 /// operation that it accepted.
-pub fn transfer<S: Source, K: Sink, D: Driver<Card>>(
+pub fn transfer<S: Source, P: SegStore, K: Sink, D: Driver<Card>>(
     alloc: Global,
     plan: &ReadyPlan,
-    size: usize,
+    sizes: Sizes,
     header: &Header,
     src: &mut S,
+    store: &mut P,
     out: &mut K,
     dev: &mut D,
 ) -> Flow
-    requires size { (1 ≤ size) × (size ≤ MAX_OPS) }
+    requires endless { P.endless }
+    requires window { 1 ≤ sizes.window }
+    requires burst { (1 ≤ sizes.burst) × (sizes.burst ≤ MAX_OPS) }
     requires sessions { D.sessions dev.old ≡ sessions_of plan.now }
     requires idle { D.held dev.old ≡ [] }
     requires stats { D.stats dev.old ≡ no_stats }
@@ -143,7 +159,7 @@ pub fn transfer<S: Source, K: Sink, D: Driver<Card>>(
     requires works { (d : D) → D.follows dev.old d → NeverIdle D.admits D.held d }
     // The calls that it made, and nothing else, lead from the driver before to the driver now, and offer the operations so.
     ensures ends { (now : List Call) × Ran D.does dev.old now dev.new
-        × EndsAs plan.now (before header.now.big (S.left src.old) (K.written out.old) (D.log dev.old) size) S.tells K.tells result.end result.counts
+        × EndsAs plan.now (before header.now.big (S.left src.old) (K.written out.old) (D.log dev.old) sizes.burst) S.tells K.tells result.end result.counts
         (outside (S.left src.new) (K.written out.new) (D.held dev.new) (D.stats dev.new) (D.log dev.new) now) }
     ensures ended { S.tells → result.end ≡ FlowEnd.Stopped ReadStop.End → S.left src.new ≡ [] }
     ensures stalled { result.end ≡ FlowEnd.Stalled → capped (D.stalls dev.old + PATIENCE * (1 + (D.stats dev.new).enqueued)) ≤ D.stalls dev.new }
@@ -156,7 +172,7 @@ pub fn transfer<S: Source, K: Sink, D: Driver<Card>>(
     ensures write_cause { result.end ≡ FlowEnd.WriteFault → Rose (K.faults out.old) (K.faults out.new) }
     ensures write_steady { K.steady → ¬ (result.end ≡ FlowEnd.WriteFault) → K.faults out.new ≡ K.faults out.old }
 {
-    let Ok(mut passage) = Passage::new(alloc, size) else {
+    let Ok(mut passage) = Passage::new(alloc, sizes.burst) else {
         return Flow {
             end: FlowEnd::OutOfMemory,
             counts: Counts::new(),
@@ -164,7 +180,17 @@ pub fn transfer<S: Source, K: Sink, D: Driver<Card>>(
     };
     let mut stalled: u64 = 0;
     loop {
-        let moved = match step(alloc, plan, header, src, out, dev, &mut passage) {
+        let moved = match step(
+            alloc,
+            plan,
+            sizes.window,
+            header,
+            src,
+            store,
+            out,
+            dev,
+            &mut passage,
+        ) {
             Ok(moved) => moved,
             Err(end) => {
                 return Flow {

@@ -48,7 +48,7 @@ mod turn;
 mod window;
 
 pub use counts::Counts;
-pub use flow::{Flow, FlowEnd, PATIENCE, transfer};
+pub use flow::{Flow, FlowEnd, PATIENCE, Sizes, transfer};
 pub use slots::Slots;
 pub use window::{Packet, Window};
 

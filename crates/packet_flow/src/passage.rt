@@ -1,13 +1,12 @@
 //! A capture on its way.
 ghost use Rattle.std.specs.Prelude.{◌≡◌, ◌≤◌, IfOk};
-ghost use Rattle.packet_flow.specs.Passage.{IsNew};
+ghost use Rattle.packet_flow.specs.Passage.{IsUnbegun};
 
 use crate::counts::Counts;
 use crate::slots::Slots;
 use crate::window::Window;
 use crypto_model::OutOfMemory;
 use crypto_op::{Card, MAX_OPS, OpBurst};
-use mbuf_chain::FreshSegs;
 use std::alloc::Global;
 
 /// What stands between the capture that is read and the one that is written.
@@ -15,8 +14,6 @@ use std::alloc::Global;
 pub(crate) struct Passage {
     /// Packets that are read and not begun.
     pub(crate) window: Window,
-    /// Where their segments come from.
-    pub(crate) store: FreshSegs,
     /// Packets that are begun and not written.
     pub(crate) slots: Slots,
     /// How many operations were made.
@@ -33,11 +30,10 @@ impl Passage {
     /// Nothing is read yet. Bursts have at most `size` operations.
     pub(crate) fn new(alloc: Global, size: usize) -> Result<Passage, OutOfMemory>
         requires { size ≤ MAX_OPS }
-        ensures { IfOk result (IsNew size) }
+        ensures { IfOk result (IsUnbegun size) }
     {
         Ok(Passage {
             window: Window::new(alloc),
-            store: FreshSegs::new(alloc),
             slots: Slots::new(alloc),
             made: 0,
             counts: Counts::new(),

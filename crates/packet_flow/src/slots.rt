@@ -164,9 +164,11 @@ impl Slots {
     ) -> Result<(), WriteFault>
         requires few { (answers : List Answered) × (counts.old ≡ counts_of answers) × (length answers + length self.old < 2 ^ 32) }
         ensures written { (plan : Plan) (ps : List Numbered) (entries : List (Entry Card)) → StandFor plan ps self.old entries
-            → OnOk result (HasWritten plan ps entries self.new counts.old counts.new (Appends plan header.now.big K.tells (K.written out.old) (K.written out.new))) }
+            → OnOk result (HasWritten plan ps entries self.new counts.old counts.new
+            (Appends plan header.now.big K.tells (K.written out.old) (K.written out.new))) }
         ensures cut { (plan : Plan) (ps : List Numbered) (entries : List (Entry Card)) → StandFor plan ps self.old entries
-            → OnErr result (HasWritten plan ps entries self.new counts.old counts.new (CutsNext plan header.now.big K.tells (K.written out.old) (K.written out.new))) }
+            → OnErr result (HasWritten plan ps entries self.new counts.old counts.new
+            (CutsNext plan header.now.big K.tells (K.written out.old) (K.written out.new))) }
         ensures waits { OnOk result (WaitsAtFront self.new) }
         ensures later { K.faults out.old ≤ K.faults out.new }
         ensures cause { OnErr result (Rose (K.faults out.old) (K.faults out.new)) }

@@ -3,7 +3,7 @@ ghost use Rattle.std.specs.Prelude.{◌≡◌, ◌+◌, ◌-◌, ◌<◌, ◌≤
 ghost use Rattle.crypto_op.specs.Op.{entry_of};
 ghost use Rattle.dev_core.specs.Burst.{rest_of, with_ops};
 
-use crate::{FlowEnd, Window, transfer};
+use crate::{FlowEnd, Sizes, Window, transfer};
 use capture_io::{Header, MemSink, MemSource, ReadStop};
 use crypto_op::{Card, OpBurst};
 use dev_core::{Driver, Stats};
@@ -140,7 +140,14 @@ fn keep(alloc: Global, packets: &[u8], most: usize) -> Result<Keeper, Fail>
     };
     let mut src = MemSource::new(records(alloc, packets)?, 1000, Vec::new(alloc));
     let mut out = MemSink::new(alloc, 1000, Vec::new(alloc))?;
-    let flow = transfer(alloc, &plan, 32, &HEADER, &mut src, &mut out, &mut dev);
+    let mut store = FreshSegs::new(alloc);
+    let sizes = Sizes {
+        window: 16,
+        burst: 32,
+    };
+    let flow = transfer(
+        alloc, &plan, sizes, &HEADER, &mut src, &mut store, &mut out, &mut dev,
+    );
     if flow.end != FlowEnd::Stalled {
         return Err("it ended otherwise".into());
     }

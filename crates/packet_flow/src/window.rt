@@ -3,7 +3,7 @@ ghost use Rattle.std.specs.Prelude.{◌≡◌, ◌≤◌, ◌<◌, ◌+◌, ◌*
 ghost use Rattle.std.specs.List.{All};
 ghost use Rattle.crypto_model.specs.Counts.{Rose};
 ghost use Rattle.capture_io.specs.Capture.{Rec, view};
-ghost use Rattle.capture_io.specs.Limits.{IsSmall};
+ghost use Rattle.capture_io.specs.Limits.{IsPlaced, IsSmall};
 ghost use Rattle.packet_flow.specs.Packet.{put_back};
 ghost use Rattle.packet_flow.specs.Reads.{GoesOn, HasRead};
 ghost use Rattle.packet_flow.specs.Window.{IsInRange, fresh_window, views};
@@ -32,13 +32,13 @@ pub struct Window {
 }
 
 impl Model for Window {
-    ghost use Rattle.packet_flow.specs.Window.{Ahead, IsKept, views};
+    ghost use Rattle.packet_flow.specs.Window.{Ahead, IsWellPlaced, views};
 
     ghost Value = { Ahead };
 
     ghost view = { λ w. record { next = w.next; waiting = views w.waiting.items; place = w.place; stop = w.stop } };
 
-    ghost invariant = { λ w. IsKept w.place w.waiting.items w.next };
+    ghost invariant = { λ w. IsWellPlaced w.place w.waiting.items w.next };
 }
 
 // Reads at most `size` records behind those that wait, and says why it stopped, if it did.
@@ -52,16 +52,17 @@ fn read_behind<S: Source, P: SegStore>(
     waiting: &mut VecDeque<Record>,
 ) -> Option<ReadStop>
     requires endless { P.endless }
-    requires place { place.old.at ≤ 24 + 262160 * place.old.records }
+    requires place { IsPlaced place.old }
     requires range { place.old.records < 2 ^ 32 }
     requires small { All IsSmall waiting.old.items }
     ensures read { S.tells → (bytes : List ℕ) (given : List Rec) → HasRead header.now.big bytes (given ++ views waiting.old.items) place.old (S.left src.old)
         → GoesOn header.now.big bytes (given ++ views waiting.new.items) place.new (S.left src.new) result }
     ensures ended { S.tells → result ≡ Some ReadStop.End → S.left src.new ≡ [] }
-    ensures place { place.new.at ≤ 24 + 262160 * place.new.records }
+    ensures place { IsPlaced place.new }
     ensures range { place.new.records < 2 ^ 32 }
     ensures small { All IsSmall waiting.new.items }
-    ensures behind { (more : List Rec) × (views waiting.new.items ≡ views waiting.old.items ++ more) × (length more ≤ size) × (result ≡ None → length more ≡ size) }
+    ensures behind { (more : List Rec) × (views waiting.new.items ≡ views waiting.old.items ++ more) × (length more ≤ size)
+        × (result ≡ None → length more ≡ size) }
     ensures count { place.old.records + length waiting.new.items ≤ place.new.records + length waiting.old.items }
     ensures later { S.faults src.old ≤ S.faults src.new }
     ensures cause { result ≡ Some ReadStop.Fault → Rose (S.faults src.old) (S.faults src.new) }

@@ -23,13 +23,13 @@ use Rattle.packet_plan.specs.declared.written.Work.TheVariants as work
 use Rattle.packet_plan.specs.declared.written.Fate.TheVariants.{Passed}
 use Rattle.packet_plan.specs.Way.{way_of}
 use Rattle.packet_plan.specs.Iv.{iv_of}
-use Rattle.packet_plan.specs.Asked.{Chosen, Passes, TooShort, Works, chosen_from, asked, asked_by, asked_of, inputs_of, is_short, packet_input, transforms_of}
+use Rattle.packet_plan.specs.Asked.{Chosen, Passes, TooShort, Works, chosen_from, asked, asked_by, asked_of, inputs_of, is_too_short, packet_input, transforms_of}
 use Rattle.packet_plan.specs.Answered.{answered_as}
 use Rattle.packet_plan.specs.Work.{IsBegun, written_view}
 use Rattle.packet_plan.specs.Ready.{IsBegunBy, IsReady, IsUsable, input_by, iv_by, ready_of, rule_of}
 use Rattle.packet_plan.proofs.SoundPlans.{chosen_holds, named, skip_short}
 use Rattle.packet_plan.proofs.UsableSessions.{all_usable}
-use Rattle.packet_plan.proofs.Ways.{digest_sizes-most}
+use Rattle.packet_plan.proofs.Ways.{digests_len-most}
 
 -- ---- a session's way
 
@@ -48,7 +48,7 @@ input_by-ready s e packet =
 
 digest_len-most : (s : Named) → IsUsable s → (way_of (transforms_of s)).digest_len ≤ 64
 unfolding way_of
-digest_len-most s is = digest_sizes-most (transforms_of s) is.made
+digest_len-most s is = digests_len-most (transforms_of s) is.made
 
 -- the way at a session's number
 pub way_there : (ss : List Named) (ways : List SessionWay) (i : ℕ) (s : Named) → ways ≡ map ready_of ss → slice_get ss i ≡ Some s
@@ -103,7 +103,7 @@ pub record Chooses (plan : Plan) (packet : List ℕ) (s : Named) (e : Errand) : 
   pub got : slice_get plan.sessions e.session.0 ≡ Some s
 
 asked_use : (plan : Plan) (packet : List ℕ) (s : Named) (e : Errand) → Chooses plan packet s e
-    → asked plan e.card.packet packet ≡ (if is_short (way_of (transforms_of s)) e.skip (length packet) then TooShort else Works e.card (packet_input e.session s e.skip e.card.packet packet))
+    → asked plan e.card.packet packet ≡ (if is_too_short (way_of (transforms_of s)) e.skip (length packet) then TooShort else Works e.card (packet_input e.session s e.skip e.card.packet packet))
 unfolding asked
 asked_use plan packet s e is =
     let n = e.card.packet in

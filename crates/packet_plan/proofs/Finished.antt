@@ -23,7 +23,7 @@ use Rattle.packet_plan.specs.declared.session_way.SessionWay.{SessionWay}
 use Rattle.packet_plan.specs.declared.way.Way.{Way}
 use Rattle.packet_plan.specs.declared.written.Fate.TheVariants.{Worked}
 use Rattle.packet_plan.specs.Way.{way_of}
-use Rattle.packet_plan.specs.Asked.{TooShort, Works, chosen_from, asked, asked_by, asked_of, is_short, packet_input, room_for, sessions_of, transforms_of}
+use Rattle.packet_plan.specs.Asked.{TooShort, Works, chosen_from, asked, asked_by, asked_of, is_too_short, packet_input, room_for, sessions_of, transforms_of}
 use Rattle.packet_plan.specs.Answered.{Answered, answered, answered_as, worked_on, written_orig, written_packet}
 use Rattle.packet_plan.specs.Ready.{IsReady}
 use Rattle.packet_plan.proofs.Begun.{found}
@@ -86,7 +86,7 @@ for_session : (plan : Plan) (packet : List ℕ) (id : SessId) (skip flow n : ℕ
     → (s : Named) × IsFor plan packet input s
 for_session plan packet id skip flow n card input None choice got is = cc
 for_session plan packet id skip flow n card input (Some s) choice got is =
-    (s, for_long plan packet id skip flow n card input s (is_short (way_of (transforms_of s)) skip (length packet)) choice got is)
+    (s, for_long plan packet id skip flow n card input s (is_too_short (way_of (transforms_of s)) skip (length packet)) choice got is)
 
 for_choice : (plan : Plan) (packet : List ℕ) (choice : Choice) (flow n : ℕ) (card : Card) (input : Input)
     → (chosen_from 0 plan.rules plan.otherwise packet).choice ≡ choice → asked_by plan flow choice n packet ≡ Works card input → (s : Named) × IsFor plan packet input s

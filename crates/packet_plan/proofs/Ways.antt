@@ -1,6 +1,6 @@
 -- The transforms of a session, and what is done with its packets.
 use Rattle.std.proofs.Common.{◌≡◌, ℕ, ◌+◌, ◌≤◌, List, [], ◌∷◌, length, get_or, map, Bool, true, false, None, Option, Some, refl, ap, sym, ◌∙◌, arith, inl, inr}
-use Rattle.std.specs.Prelude.{not, ◌&&◌, ◌||◌, ◌⊎◌, if◌then◌else◌}
+use Rattle.std.specs.Prelude.{not, ◌||◌, ◌⊎◌, if◌then◌else◌}
 use Rattle.std.specs.List.{list_all}
 use Rattle.std.proofs.lemmas.Bool.Decides.{nat_tests}
 use Rattle.std.proofs.lemmas.List.{length-map}
@@ -17,7 +17,7 @@ use Rattle.sym_session.specs.declared.xform.Xform.{Xform}
 use Rattle.sym_session.specs.Xform.{transform_of}
 use Rattle.sym_session.specs.Fault.{fault_of}
 use Rattle.packet_plan.specs.declared.way.Way.{Way}
-use Rattle.packet_plan.specs.Way.{way_of, takes_back, digest_size, digest_sizes, has_data, has_code, has_aad}
+use Rattle.packet_plan.specs.Way.{way_of, takes_back, digest_len_of, digests_len, has_data, has_code, has_aad}
 use Rattle.crypto_model.proofs.Both.{both}
 
 -- what the four tests find
@@ -51,12 +51,12 @@ hash-most Sha256 = omega arith
 hash-most Sha384 = omega arith
 hash-most Sha512 = omega arith
 
-digest-most : (t : Transform) → digest_fits t ≡ true → digest_size t ≤ 64
+digest-most : (t : Transform) → digest_fits t ≡ true → digest_len_of t ≤ 64
 digest-most (Cipher alg dir key) h = omega arith
 digest-most (Auth hash act key n) h = let most = hash-most hash in grind (arith, nat_tests)
 digest-most (Aead dir key n aad_len) h = grind (arith, nat_tests)
 
-chain-most : (ts : List Transform) → is_chain ts ≡ true → list_all digest_fits ts ≡ true → digest_sizes ts ≤ 64
+chain-most : (ts : List Transform) → is_chain ts ≡ true → list_all digest_fits ts ≡ true → digests_len ts ≤ 64
 chain-most [] chain fit = omega arith
 chain-most (t ∷ []) chain fit = omega (arith, digest-most t (both _ _ fit).0)
 chain-most (Cipher alg Encrypt key ∷ Auth hash Generate code_key n ∷ []) chain fit = omega (arith, digest-most (Auth hash Generate code_key n) (both _ _ fit).0)
@@ -64,8 +64,8 @@ chain-most (Auth hash Verify code_key n ∷ Cipher alg Decrypt key ∷ []) chain
 chain-most (t ∷ u ∷ ts) chain fit = cc
 
 -- a session's digest has at most 64 bytes
-pub digest_sizes-most : (ts : List Transform) → fault_of ts ≡ None → digest_sizes ts ≤ 64
-digest_sizes-most ts h = let f = fits ts h in chain-most ts f.chain f.digests
+pub digests_len-most : (ts : List Transform) → fault_of ts ≡ None → digests_len ts ≤ 64
+digests_len-most ts h = let f = fits ts h in chain-most ts f.chain f.digests
 
 chain-few : (ts : List Transform) → is_chain ts ≡ true → (length ts ≡ 1) ⊎ (length ts ≡ 2)
 chain-few [] chain = cc
@@ -123,6 +123,6 @@ pub two_sizes : (xs : List Xform) (x y : Xform) (one other : Way) → fault_of (
     → y ≡ get_or xs 1 y → one ≡ way_of (transform_of x ∷ []) → other ≡ way_of (transform_of y ∷ []) → one.digest_len + other.digest_len ≤ 64
 unfolding way_of
 two_sizes xs x y one other h two is is' first second =
-    let most = digest_sizes-most (map transform_of xs) h in
-    let all = ap (λ (l : List Xform). digest_sizes (map transform_of l)) (two_items xs x y two is is') in
+    let most = digests_len-most (map transform_of xs) h in
+    let all = ap (λ (l : List Xform). digests_len (map transform_of l)) (two_items xs x y two is is') in
     omega (arith, most, all, ap (λ (w : Way). w.digest_len) first, ap (λ (w : Way). w.digest_len) second)

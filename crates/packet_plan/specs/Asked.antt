@@ -53,8 +53,8 @@ end_of way len = if way.inward then len - way.digest_len else len
 abbrev pub room_for : Way → ℕ
 room_for way = if way.inward then 0 else way.digest_len
 
-abbrev pub is_short : Way → ℕ → ℕ → Bool
-is_short way skip len = nat_lt len skip || (way.inward && nat_lt len (skip + way.digest_len))
+abbrev pub is_too_short : Way → ℕ → ℕ → Bool
+is_too_short way skip len = nat_lt len skip || (way.inward && nat_lt len (skip + way.digest_len))
 
 abbrev pub no_range : Range
 no_range = record { off = 0; len = 0 }
@@ -98,7 +98,7 @@ pub data Asked : Type 0 where
 abbrev pub asked_of : Option Named → SessId → ℕ → ℕ → ℕ → List ℕ → Asked
 asked_of None id skip flow n packet = Passes
 asked_of (Some s) id skip flow n packet =
-    if is_short (way_of (transforms_of s)) skip (length packet) then TooShort
+    if is_too_short (way_of (transforms_of s)) skip (length packet) then TooShort
     else Works (record { packet = n; flow = flow }) (packet_input id s skip n packet)
 
 abbrev pub asked_by : Plan → ℕ → Choice → ℕ → List ℕ → Asked

@@ -23,7 +23,7 @@ use Rattle.packet_plan.specs.declared.iv.IvRule.TheVariants.{Empty, Counter, Non
 use Rattle.packet_plan.specs.declared.session_way.SessionWay.{SessionWay}
 use Rattle.packet_plan.specs.Way.{way_of}
 use Rattle.packet_plan.specs.Iv.{nonce}
-use Rattle.packet_plan.specs.Asked.{transforms_of, aad_in, data_range, code_range, digest_place, is_short, room_for}
+use Rattle.packet_plan.specs.Asked.{transforms_of, aad_in, data_range, code_range, digest_place, is_too_short, room_for}
 use Rattle.packet_plan.specs.Work.{kept_rec, written_view}
 
 -- ---- IVs
@@ -100,7 +100,7 @@ pub record IsReady (plan : Plan) (all : List SessionWay) : Type 0 where
 
 -- an operation that was made for a record
 pub record IsMade (s : SessionWay) (e : Errand) (r : Rec) (k : Kept) (op : Op Card) : Type 0 where
-  pub long : is_short s.way e.skip (length r.packet) ≡ false
+  pub long : is_too_short s.way e.skip (length r.packet) ≡ false
   pub input : input_of (made op) ≡ input_by s e r.packet
   pub fresh : IsFresh op
   pub pos : op.spec.pos ≡ e.pos
@@ -109,5 +109,5 @@ pub record IsMade (s : SessionWay) (e : Errand) (r : Rec) (k : Kept) (op : Op Ca
 
 -- what a session makes of a record: nothing where the packet is too short
 abbrev pub IsBegunBy : SessionWay → Errand → Rec → Work → Type 0
-IsBegunBy s e r (work.Ready w) = (is_short s.way e.skip (length r.packet) ≡ true) × (written_view w ≡ record { rec = r; fate = Short })
+IsBegunBy s e r (work.Ready w) = (is_too_short s.way e.skip (length r.packet) ≡ true) × (written_view w ≡ record { rec = r; fate = Short })
 IsBegunBy s e r (work.Needs kept op) = IsMade s e r kept op

@@ -16,14 +16,14 @@ takes_back (Aead Encrypt key n aad_len) = false
 takes_back (Aead Decrypt key n aad_len) = true
 
 -- the bytes of its digest or tag
-abbrev pub digest_size : Transform → ℕ
-digest_size (Cipher alg dir key) = 0
-digest_size (Auth hash act key n) = n
-digest_size (Aead dir key n aad_len) = n
+abbrev pub digest_len_of : Transform → ℕ
+digest_len_of (Cipher alg dir key) = 0
+digest_len_of (Auth hash act key n) = n
+digest_len_of (Aead dir key n aad_len) = n
 
-abbrev pub digest_sizes : List Transform → ℕ
-digest_sizes [] = 0
-digest_sizes (t ∷ ts) = digest_size t + digest_sizes ts
+abbrev pub digests_len : List Transform → ℕ
+digests_len [] = 0
+digests_len (t ∷ ts) = digest_len_of t + digests_len ts
 
 -- it encrypts or decrypts
 abbrev pub has_data : Transform → Bool
@@ -46,7 +46,7 @@ has_aad (Aead dir key n aad_len) = true
 unfoldable pub way_of : List Transform → Way
 way_of ts = record {
   inward = list_any takes_back ts;
-  digest_len = digest_sizes ts;
+  digest_len = digests_len ts;
   crypts = list_any has_data ts;
   code = list_any has_code ts;
   aead = list_any has_aad ts;

@@ -5,7 +5,7 @@ ghost use Rattle.crypto_op.specs.Op.{IsFresh};
 ghost use Rattle.capture_io.specs.Capture.{view};
 ghost use Rattle.capture_io.specs.Limits.{IsSmall};
 ghost use Rattle.packet_plan.specs.declared.written.Fate.TheVariants.{Worked};
-ghost use Rattle.packet_plan.specs.Asked.{is_short, room_for};
+ghost use Rattle.packet_plan.specs.Asked.{is_too_short, room_for};
 ghost use Rattle.packet_plan.specs.Answered.{written_orig};
 ghost use Rattle.packet_plan.specs.Work.{written_view};
 ghost use Rattle.packet_plan.specs.Ready.{IsBegunBy, spec_by};
@@ -14,7 +14,7 @@ use crate::room::with_room;
 use crate::session_way::SessionWay;
 use crate::way::Way;
 use crate::written::{Fate, Kept, Work, Written};
-use capture_io::Record;
+use capture_io::{MAX_CAPTURED, Record};
 use crypto_model::{OutOfMemory, SessId, Status};
 use crypto_op::{Card, Op};
 use mbuf_chain::Mbuf;
@@ -39,8 +39,8 @@ fn operation(
     errand: Errand,
     packet: Mbuf,
 ) -> Result<Op<Card>, OutOfMemory>
-    requires long { is_short way.now.way errand.skip (length (packet_of packet)) ≡ false }
-    requires captured { length (packet_of packet) ≤ 262144 }
+    requires long { is_too_short way.now.way errand.skip (length (packet_of packet)) ≡ false }
+    requires captured { length (packet_of packet) ≤ MAX_CAPTURED }
     requires segments { length packet ≤ 129 }
     requires digest { way.now.way.digest_len ≤ 64 }
     requires aad { IsTrue way.now.way.aead → errand.skip ≤ 255 }

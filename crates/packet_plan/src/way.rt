@@ -4,7 +4,7 @@ ghost use Rattle.sym_session.specs.Xform.{transform_of};
 ghost use Rattle.sym_session.specs.Fault.{fault_of};
 ghost use Rattle.packet_plan.specs.Way.{way_of};
 ghost use Rattle.packet_plan.specs.Answered.{written_orig};
-ghost use Rattle.packet_plan.specs.Asked.{code_range, data_range, digest_place, end_of, is_short, room_for};
+ghost use Rattle.packet_plan.specs.Asked.{code_range, data_range, digest_place, end_of, is_too_short, room_for};
 
 use crypto_model::{Act, DigestPlace, Dir, Range, Status};
 use sym_session::Xform;
@@ -93,7 +93,7 @@ impl Way {
     // Whether a packet of `len` bytes is too short, where the first `skip` are skipped.
     pub(crate) fn is_short(self, skip: u32, len: usize) -> bool
         requires { self.digest_len ≤ 64 }
-        ensures { result ≡ is_short self skip len }
+        ensures { result ≡ is_too_short self skip len }
     {
         let skip = skip as usize;
         len < skip || (self.inward && len < skip + self.digest_len)

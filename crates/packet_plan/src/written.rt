@@ -1,6 +1,7 @@
 //! Records on their way.
 ghost use Rattle.std.specs.Prelude.{◌≡◌, ◌≤◌, length};
 ghost use Rattle.mbuf_chain.specs.Chain.{packet_of};
+ghost use Rattle.capture_io.specs.declared.reading.TheConstants.{MAX_CAPTURED};
 
 use capture_io::Record;
 use crypto_model::Status;
@@ -37,7 +38,7 @@ pub struct Kept {
     pub(crate) len: usize,
     pub(crate) read: Snapshot<Mbuf>,
     ghost len_is: { len ≡ length (packet_of read.value) },
-    ghost captured: { len ≤ 262144 },
+    ghost captured: { len ≤ MAX_CAPTURED },
     ghost original: { orig ≤ 4294967231 },
 }
 

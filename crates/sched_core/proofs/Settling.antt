@@ -12,7 +12,7 @@ use Rattle.std.specs.List.{All}
 use Rattle.std.proofs.lemmas.List.Elements.{All-cons, All-head, All-tail}
 use Rattle.crypto_model.specs.Process.{Transform}
 use Rattle.crypto_op.specs.Op.{IsDone}
-use Rattle.sched_core.specs.Pending.{SlotDone, with_pos, held_as, pending, open_numbers, times, HoldsOpen, IsSound}
+use Rattle.sched_core.specs.Pending.{SlotDone, with_pos, held_as, pending_from, open_numbers, times, HoldsOpen, IsRingSound}
 use Rattle.sched_core.proofs.Lookup.{IsIn, one, count-cons, count-append, counted, only, same_found, count_more, far, apart, is_one, not_one, is_in-right, is_in-permutation}
 use Rattle.sched_core.proofs.Slots.{open_below}
 use Rattle.sched_core.proofs.PendingMore.{pending-same, eqb_refl, exactly}
@@ -52,7 +52,7 @@ tail_apart a n slots h i e =
     omega (arith, r, o)
 
 -- what is pending stays
-pub pending-settled : {C : Type 0} (a : ℕ) (slots : List (Slot C)) (i : ℕ) (op : Op C) (rest fs : List (Entry C)) → IsPermutation (rest ++ entry_of op ∷ []) fs → op.spec.pos ≡ (a + i) % 2 ^ 64 → IsOpenAt slots i → length slots ≤ 2 ^ 64 → ((n : ℕ) → IsIn n (open_numbers a slots) → count_by (λ (e : Entry C). e.pos == n) fs ≡ 1) → pending a (settled_at slots i op) rest ≡ pending a slots fs
+pub pending-settled : {C : Type 0} (a : ℕ) (slots : List (Slot C)) (i : ℕ) (op : Op C) (rest fs : List (Entry C)) → IsPermutation (rest ++ entry_of op ∷ []) fs → op.spec.pos ≡ (a + i) % 2 ^ 64 → IsOpenAt slots i → length slots ≤ 2 ^ 64 → ((n : ℕ) → IsIn n (open_numbers a slots) → count_by (λ (e : Entry C). e.pos == n) fs ≡ 1) → pending_from a (settled_at slots i op) rest ≡ pending_from a slots fs
 pending-settled a [] i op rest fs p at o l h = absurd o
 pending-settled a (Settled k ∷ slots) zero op rest fs p at o l h = absurd o
 pending-settled a (Open saved ∷ slots) zero op rest fs p at o l h =
@@ -64,7 +64,7 @@ pending-settled a (Open saved ∷ slots) zero op rest fs p at o l h =
     let tail = pending-same (a + 1) slots rest (e ∷ []) fs p (λ m j.
     let d : op.spec.pos ≢ m = λ q. tail_apart a m slots (omega arith) j (sym is ∙ q) in
     (count_without m rest fs e p d ∙ h m (inr j), h m (inr j))) in
-    ap (λ l. entry_of (moved_to saved op) ∷ l) (sym tail) ∙ sym (ap (λ l. map (with_pos saved) l ++ pending (a + 1) slots fs) f)
+    ap (λ l. entry_of (moved_to saved op) ∷ l) (sym tail) ∙ sym (ap (λ l. map (with_pos saved) l ++ pending_from (a + 1) slots fs) f)
 pending-settled a (Open saved ∷ slots) (suc i) op rest fs p at o l h =
     let n = a % 2 ^ 64 in
     let e = entry_of op in
@@ -73,7 +73,7 @@ pending-settled a (Open saved ∷ slots) (suc i) op rest fs p at o l h =
     let d : op.spec.pos ≢ n = λ q. apart a (suc i) (omega arith) below (sym at ∙ q) in
     let f = same_found (λ x. x.pos == n) rest (e ∷ []) fs p (count_without n rest fs e p d ∙ h n (inl refl)) (h n (inl refl)) in
     let r = pending-settled (a + 1) slots i op rest fs p (at ∙ ap (λ b. b % 2 ^ 64) s) o (omega arith) (λ m j. h m (inr j)) in
-    ap (λ l. map (with_pos saved) l ++ pending (a + 1) (settled_at slots i op) rest) (sym f) ∙ ap (λ l. held_as n saved fs ++ l) r
+    ap (λ l. map (with_pos saved) l ++ pending_from (a + 1) (settled_at slots i op) rest) (sym f) ∙ ap (λ l. held_as n saved fs ++ l) r
 pending-settled a (Settled k ∷ slots) (suc i) op rest fs p at o l h =
     let s : a + suc i ≡ (a + 1) + i = omega arith in
     ap (λ l. entry_of k ∷ l) (pending-settled (a + 1) slots i op rest fs p (at ∙ ap (λ b. b % 2 ^ 64) s) o (omega arith) h)
@@ -119,10 +119,10 @@ length-settled_at (s ∷ slots) (suc i) op = ap suc (length-settled_at slots i o
 -- one operation that came back, of those that did
 pub record Settles {C : Type 0} (r : Ring (Slot C)) (op : Op C) (held : List (Entry C)) (all rest : List (Op C)) : Type 0 where
   pub is_open : IsOpenAt r.slots (place r op.spec.pos)
-  pub sound : IsSound (Some (record r { slots = settled_at r.slots (place r op.spec.pos) op })) (held ++ map entry_of rest)
-  pub pending : pending r.first (settled_at r.slots (place r op.spec.pos) op) (held ++ map entry_of rest) ≡ pending r.first r.slots (held ++ map entry_of all)
+  pub sound : IsRingSound (Some (record r { slots = settled_at r.slots (place r op.spec.pos) op })) (held ++ map entry_of rest)
+  pub pending : pending_from r.first (settled_at r.slots (place r op.spec.pos) op) (held ++ map entry_of rest) ≡ pending_from r.first r.slots (held ++ map entry_of all)
 
-settle_at : {C : Type 0} (r : Ring (Slot C)) (held : List (Entry C)) (op : Op C) (rest : List (Op C)) → IsSound (Some r) (held ++ entry_of op ∷ map entry_of rest) → Settles r op held (op ∷ rest) rest
+settle_at : {C : Type 0} (r : Ring (Slot C)) (held : List (Entry C)) (op : Op C) (rest : List (Op C)) → IsRingSound (Some r) (held ++ entry_of op ∷ map entry_of rest) → Settles r op held (op ∷ rest) rest
 settle_at r held op rest s =
     let e = entry_of op in
     let fs = held ++ e ∷ map entry_of rest in
@@ -140,7 +140,7 @@ settle_at r held op rest s =
       pending = rw p (pending-settled r.first r.slots o.0 op es fs perm o.2 o.1 (omega (arith, s.1, s.2)) (λ n j. s.0 n ∙ exactly n r.first r.slots (omega (arith, s.1, s.2)) j));
     }
 
-pub settle_step : {C : Type 0} (r : Ring (Slot C)) (held : List (Entry C)) (all : List (Op C)) (op : Op C) (rest : List (Op C)) → all ≡ op ∷ rest → IsSound (Some r) (held ++ map entry_of all) → Settles r op held all rest
+pub settle_step : {C : Type 0} (r : Ring (Slot C)) (held : List (Entry C)) (all : List (Op C)) (op : Op C) (rest : List (Op C)) → all ≡ op ∷ rest → IsRingSound (Some r) (held ++ map entry_of all) → Settles r op held all rest
 settle_step r held all op rest e s = rw e (settle_at r held op rest (rw e at s))
 
 pub none_behind : {C : Type 0} (held : List (Entry C)) (ops : List (Op C)) → length ops ≡ 0 → held ++ map entry_of ops ≡ held

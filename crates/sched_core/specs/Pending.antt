@@ -33,14 +33,14 @@ abbrev pub held_as : {C : Type 0} → ℕ → ℕ → List (Entry C) → List (E
 held_as n saved es = map (with_pos saved) (filter (λ e. e.pos == n) es)
 
 -- the entries of the slots from this number on, where the devices hold es
-abbrev pub pending : {C : Type 0} → ℕ → List (Slot C) → List (Entry C) → List (Entry C)
-pending n [] es = []
-pending n (Open saved ∷ slots) es = held_as (n % 2 ^ 64) saved es ++ pending (n + 1) slots es
-pending n (Settled op ∷ slots) es = entry_of op ∷ pending (n + 1) slots es
+abbrev pub pending_from : {C : Type 0} → ℕ → List (Slot C) → List (Entry C) → List (Entry C)
+pending_from n [] es = []
+pending_from n (Open saved ∷ slots) es = held_as (n % 2 ^ 64) saved es ++ pending_from (n + 1) slots es
+pending_from n (Settled op ∷ slots) es = entry_of op ∷ pending_from (n + 1) slots es
 
 abbrev pub pending_of : {C : Type 0} → Option (Ring (Slot C)) → List (Entry C) → List (Entry C)
 pending_of None es = es
-pending_of (Some ring) es = pending ring.first ring.slots es
+pending_of (Some ring) es = pending_from ring.first ring.slots es
 
 abbrev pub open_numbers : {C : Type 0} → ℕ → List (Slot C) → List ℕ
 open_numbers n [] = []
@@ -56,9 +56,9 @@ abbrev pub HoldsOpen : {C : Type 0} → Ring (Slot C) → List (Entry C) → Typ
 HoldsOpen ring es = (n : ℕ) → count_by (λ e. e.pos == n) es ≡ times n (open_numbers ring.first ring.slots)
 
 -- with a ring, what its numbers say
-abbrev pub IsSound : {C : Type 0} → Option (Ring (Slot C)) → List (Entry C) → Type 0
-IsSound None es = Unit {0}
-IsSound (Some ring) es = HoldsOpen ring es × (length ring.slots ≤ ring.cap) × (ring.cap ≤ MAX_OPS) × (ring.first < 2 ^ 64)
+abbrev pub IsRingSound : {C : Type 0} → Option (Ring (Slot C)) → List (Entry C) → Type 0
+IsRingSound None es = Unit {0}
+IsRingSound (Some ring) es = HoldsOpen ring es × (length ring.slots ≤ ring.cap) × (ring.cap ≤ MAX_OPS) × (ring.first < 2 ^ 64)
 
 -- with a ring, in order
 abbrev pub InOrder : {C : Type 0} → Option (Ring (Slot C)) → Type 0
@@ -78,7 +78,8 @@ SlotDone sessions (Settled op) = IsDone sessions op
 -- Whatever else the workers hold, these entries came back from them and went into the ring, and what is pending is the same.
 abbrev pub ComesBack : {C : Type 0} → List (Entry C) → Ring (Slot C) → Ring (Slot C) → Type 0
 ComesBack {C} came old new =
-    (held : List (Entry C)) → IsSound (Some old) (held ++ came) → IsSound (Some new) held × (pending_of (Some new) held ≡ pending_of (Some old) (held ++ came))
+    (held : List (Entry C)) → IsRingSound (Some old) (held ++ came)
+    → IsRingSound (Some new) held × (pending_of (Some new) held ≡ pending_of (Some old) (held ++ came))
 
 abbrev pub RingDone : {C : Type 0} → List (List Transform) → Option (Ring (Slot C)) → Type 0
 RingDone sessions None = Unit {0}

@@ -6,6 +6,7 @@ use Rattle.crypto_model.specs.Process.{Transform}
 use Rattle.sched_core.specs.Mode.{most_workers}
 use Rattle.sched_core.specs.declared.mode.Mode.{Mode}
 use Rattle.sched_core.specs.declared.scheduler.Parts.{Parts}
+use Rattle.sched_core.specs.declared.scheduler.TheConstants.{MAX_THRESHOLD}
 
 -- of its devices the first `workers` are attached
 pub record Stopped (D : Type 0) : Type 0 where
@@ -21,7 +22,7 @@ made_of p = record { mode = p.mode; ordering = p.ordering; threshold = p.thresho
 
 -- a power of two from 1 to 262,144
 abbrev pub is_threshold : ℕ → Bool
-is_threshold n = is_power_of_two n && nat_le n 262144
+is_threshold n = is_power_of_two n && nat_le n MAX_THRESHOLD
 
 -- the first w devices have these sessions
 abbrev pub EachAlike : {D : Type 0} → (D → List (List Transform)) → List (List Transform) → ℕ → List D → Type 0

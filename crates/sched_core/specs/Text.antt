@@ -33,7 +33,8 @@ field_of text =
     else if bytes_eq text (codes "worker=lane") then Some (field.Worker Lane)
     else if bytes_eq text (codes "ordering=enable") then Some (field.Ordering true)
     else if bytes_eq text (codes "ordering=disable") then Some (field.Ordering false)
-    else if nat_le 21 (length text) && bytes_eq (take 21 text) (codes "mode_param=threshold:") then option_map (λ n. field.Threshold n) (threshold_of (drop 21 text))
+    else if nat_le 21 (length text) && bytes_eq (take 21 text) (codes "mode_param=threshold:")
+    then option_map (λ n. field.Threshold n) (threshold_of (drop 21 text))
     else None
 
 -- What is seen behind one field more, unless a field with the same word stands earlier. Of workers there may be eight.
@@ -71,7 +72,7 @@ IsLegalField (field.Threshold n) = is_threshold n ≡ true
 IsLegalField f = Unit {0}
 
 -- What is seen so far is legal, if not yet whole.
-pub record IsLegal (s : Seen) : Type 0 where
+pub record IsLegalSoFar (s : Seen) : Type 0 where
   pub workers : s.workers ≤ 8
   pub threshold : IfSome s.threshold (λ n. is_threshold n ≡ true)
 
@@ -88,7 +89,8 @@ field_then None at next = Err at
 -- What the fields from offset `at` on say behind what is seen, or the offset of the first faulty one. The text has len bytes.
 unfoldable pub read_fields : ℕ → ℕ → Seen → List (List ℕ) → Result SchedText ℕ
 read_fields len at s [] = finished s len
-read_fields len at s (text ∷ rest) = field_then (option_and_then (with_field s) (field_of text)) at (λ after. read_fields len (at + (length text + 1)) after rest)
+read_fields len at s (text ∷ rest) =
+    field_then (option_and_then (with_field s) (field_of text)) at (λ after. read_fields len (at + (length text + 1)) after rest)
 
 abbrev pub nothing_seen : Seen
 nothing_seen = record {

@@ -4,7 +4,7 @@ ghost use Rattle.std.specs.Char.{is_ascii_digit};
 ghost use Rattle.std.specs.List.{list_all};
 ghost use Rattle.std.specs.Str.Parse.{digits_value};
 ghost use Rattle.sched_core.specs.Stopped.{is_threshold};
-ghost use Rattle.sched_core.specs.Text.{IsLegal, IsLegalField, field_of, threshold_of, with_field};
+ghost use Rattle.sched_core.specs.Text.{IsLegalSoFar, IsLegalField, field_of, threshold_of, with_field};
 
 use crate::Mode;
 use crate::scheduler::allowed_threshold;
@@ -122,7 +122,7 @@ fn read_field(text: &[u8]) -> Option<Field>
 impl Seen {
     /// What is seen behind one field more.
     fn with(&self, field: Field) -> Option<Seen>
-        ensures legal { IsLegal self.now → IsLegalField field → IfSome result IsLegal }
+        ensures legal { IsLegalSoFar self.now → IsLegalField field → IfSome result IsLegalSoFar }
         ensures said { result ≡ with_field self.now field }
     {
         let mut next = *self;
@@ -160,7 +160,7 @@ impl Seen {
     }
 
     pub(crate) fn with_text(&self, text: &[u8]) -> Option<Seen>
-        ensures legal { IsLegal self.now → IfSome result IsLegal }
+        ensures legal { IsLegalSoFar self.now → IfSome result IsLegalSoFar }
         ensures said { result ≡ option_and_then (with_field self.now) (field_of text.now) }
     {
         match read_field(text) {

@@ -14,7 +14,8 @@ use thiserror::Error;
 
 const FIRST_THRESHOLD: u32 = 128;
 
-const MAX_THRESHOLD: u32 = 262_144;
+/// A threshold is at most so many bytes, which is as long as a packet of a capture may be.
+pub const MAX_THRESHOLD: u32 = 262_144;
 
 /// Why no device was attached.
 #[derive(Clone, Copy, Debug, PartialEq, Eq, Error)]

@@ -1,6 +1,6 @@
 //! The scheduler text.
 ghost use Rattle.std.specs.Prelude.{◌≡◌, ◌≢◌, ◌<◌, ◌≤◌, ◌+◌, ℕ, [], ◌∷◌, Ok, Err, length, slice_index, IfOk, MatchOption, MatchResult};
-ghost use Rattle.sched_core.specs.Text.{IsLegal, IsSchedulable, fields_of, finished, sched_of};
+ghost use Rattle.sched_core.specs.Text.{IsLegalSoFar, IsSchedulable, fields_of, finished, sched_of};
 
 use crate::Mode;
 use crate::field::{Seen, behind};
@@ -66,7 +66,7 @@ fn first_field(text: &[u8]) -> (&[u8], Option<&[u8]>)
 }
 
 fn finish(seen: &Seen, len: usize) -> Result<SchedText, BadText>
-    requires { IsLegal seen.now }
+    requires { IsLegalSoFar seen.now }
     ensures schedulable { IfOk result IsSchedulable }
     ensures said { MatchResult result (λ x. finished seen.now len ≡ Ok x) (λ e. finished seen.now len ≡ Err e.at) }
 {

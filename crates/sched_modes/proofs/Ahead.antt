@@ -11,18 +11,18 @@ use Rattle.sched_core.specs.declared.ring.Slot.{Slot}
 use Rattle.sched_core.specs.declared.ring.Slot.TheVariants.{Open, Settled}
 use Rattle.sched_core.specs.declared.ring.Front.TheVariants as Front
 use Rattle.sched_core.specs.Ring.{Ring, front_of}
-use Rattle.sched_core.specs.Pending.{pending, pending_of, open_numbers, held_as, with_pos, times, IsSound, SlotDone, RingDone}
+use Rattle.sched_core.specs.Pending.{pending_from, pending_of, open_numbers, held_as, with_pos, times, IsRingSound, SlotDone, RingDone}
 use Rattle.sched_core.proofs.Lookup.{IsIn, count-cons, is_one}
 use Rattle.sched_core.proofs.PendingMore.{exactly}
-use Rattle.sched_modes.specs.Workers.{Taken, NotReady, FrontOpen, IsNewRing, RingFits, cap_of}
+use Rattle.sched_modes.specs.Workers.{Taken, NotReady, FrontOpen, IsNewRing, RingFits, ring_cap}
 
 next_mod : (a b : ℕ) → a % 2 ^ 64 ≡ b % 2 ^ 64 → (a + 1) % 2 ^ 64 ≡ (b + 1) % 2 ^ 64
 next_mod a b h = omega (arith, h)
 
 -- numbers count by their rest alone
-pub pending-mod : {C : Type 0} (a b : ℕ) (slots : List (Slot C)) (es : List (Entry C)) → a % 2 ^ 64 ≡ b % 2 ^ 64 → pending a slots es ≡ pending b slots es
+pub pending-mod : {C : Type 0} (a b : ℕ) (slots : List (Slot C)) (es : List (Entry C)) → a % 2 ^ 64 ≡ b % 2 ^ 64 → pending_from a slots es ≡ pending_from b slots es
 pending-mod a b [] es h = refl
-pending-mod a b (Open saved ∷ slots) es h = ap (λ n. held_as n saved es ++ pending (a + 1) slots es) h ∙ ap (λ l. held_as (b % 2 ^ 64) saved es ++ l) (pending-mod (a + 1) (b + 1) slots es (next_mod a b h))
+pending-mod a b (Open saved ∷ slots) es h = ap (λ n. held_as n saved es ++ pending_from (a + 1) slots es) h ∙ ap (λ l. held_as (b % 2 ^ 64) saved es ++ l) (pending-mod (a + 1) (b + 1) slots es (next_mod a b h))
 pending-mod a b (Settled op ∷ slots) es h = ap (λ l. entry_of op ∷ l) (pending-mod (a + 1) (b + 1) slots es (next_mod a b h))
 
 pub open-mod : {C : Type 0} (a b : ℕ) (slots : List (Slot C)) → a % 2 ^ 64 ≡ b % 2 ^ 64 → open_numbers a slots ≡ open_numbers b slots
@@ -30,11 +30,11 @@ open-mod a b [] h = refl
 open-mod a b (Open saved ∷ slots) h = ap (λ n. n ∷ open_numbers (a + 1) slots) h ∙ ap (λ l. b % 2 ^ 64 ∷ l) (open-mod (a + 1) (b + 1) slots (next_mod a b h))
 open-mod a b (Settled op ∷ slots) h = open-mod (a + 1) (b + 1) slots (next_mod a b h)
 
-pending-front : {C : Type 0} (a : ℕ) (ops : List (Op C)) (slots : List (Slot C)) (es : List (Entry C)) → pending a (map Settled ops ++ slots) es ≡ map entry_of ops ++ pending (a + length ops) slots es
-pending-front a [] slots es = ap (λ b. pending b slots es) (sym (add-zero a))
+pending-front : {C : Type 0} (a : ℕ) (ops : List (Op C)) (slots : List (Slot C)) (es : List (Entry C)) → pending_from a (map Settled ops ++ slots) es ≡ map entry_of ops ++ pending_from (a + length ops) slots es
+pending-front a [] slots es = ap (λ b. pending_from b slots es) (sym (add-zero a))
 pending-front a (op ∷ ops) slots es =
     let s : (a + 1) + length ops ≡ a + suc (length ops) = omega arith in
-    ap (λ l. entry_of op ∷ l) (pending-front (a + 1) ops slots es ∙ ap (λ b. map entry_of ops ++ pending b slots es) s)
+    ap (λ l. entry_of op ∷ l) (pending-front (a + 1) ops slots es ∙ ap (λ b. map entry_of ops ++ pending_from b slots es) s)
 
 open-front : {C : Type 0} (a : ℕ) (ops : List (Op C)) (slots : List (Slot C)) → open_numbers a (map Settled ops ++ slots) ≡ open_numbers (a + length ops) slots
 open-front a [] slots = ap (λ b. open_numbers b slots) (sym (add-zero a))
@@ -52,11 +52,11 @@ mod_mod : (a b : ℕ) → b ≡ a % 2 ^ 64 → a % 2 ^ 64 ≡ b % 2 ^ 64
 mod_mod a b e = omega (arith, e)
 
 -- what is taken is the front of what is pending
-pub taken_pending : {C : Type 0} (r s : Ring (Slot C)) (ops : List (Op C)) (es : List (Entry C)) → Taken r s ops → pending r.first r.slots es ≡ map entry_of ops ++ pending s.first s.slots es
+pub taken_pending : {C : Type 0} (r s : Ring (Slot C)) (ops : List (Op C)) (es : List (Entry C)) → Taken r s ops → pending_from r.first r.slots es ≡ map entry_of ops ++ pending_from s.first s.slots es
 taken_pending r s ops es t =
-    ap (λ l. pending r.first l es) t.0 ∙ (pending-front r.first ops s.slots es ∙ ap (λ l. map entry_of ops ++ l) (pending-mod (r.first + length ops) s.first s.slots es (mod_mod (r.first + length ops) s.first t.2)))
+    ap (λ l. pending_from r.first l es) t.0 ∙ (pending-front r.first ops s.slots es ∙ ap (λ l. map entry_of ops ++ l) (pending-mod (r.first + length ops) s.first s.slots es (mod_mod (r.first + length ops) s.first t.2)))
 
-pub taken_sound : {C : Type 0} (r s : Ring (Slot C)) (ops : List (Op C)) (es : List (Entry C)) → Taken r s ops → IsSound (Some r) es → IsSound (Some s) es
+pub taken_sound : {C : Type 0} (r s : Ring (Slot C)) (ops : List (Op C)) (es : List (Entry C)) → Taken r s ops → IsRingSound (Some r) es → IsRingSound (Some s) es
 taken_sound r s ops es t k =
     let o : open_numbers r.first r.slots ≡ open_numbers s.first s.slots = ap (open_numbers r.first) t.0 ∙ (open-front r.first ops s.slots ∙ open-mod (r.first + length ops) s.first s.slots (mod_mod (r.first + length ops) s.first t.2)) in
     (λ n. k.0 n ∙ ap (times n) o, omega (arith, ap length t.0, length-append (map Settled ops) s.slots, k.1, t.1), omega (arith, k.2, t.1), omega (arith, t.2))
@@ -65,7 +65,7 @@ pub taken_done : {C : Type 0} (sessions : List (List Transform)) (r s : Ring (Sl
 taken_done sessions r s ops t h = done-front sessions ops s.slots (subst (All (SlotDone sessions)) t.0 h)
 
 -- where nothing is held and the front isn't settled, nothing is pending
-nothing : {C : Type 0} (first cap : ℕ) (slots : List (Slot C)) (es : List (Entry C)) → length es ≡ 0 → IsSound (Some (record { cap = cap; first = first; slots = slots })) es → NotReady (Some (record { cap = cap; first = first; slots = slots })) → pending first slots es ≡ []
+nothing : {C : Type 0} (first cap : ℕ) (slots : List (Slot C)) (es : List (Entry C)) → length es ≡ 0 → IsRingSound (Some (record { cap = cap; first = first; slots = slots })) es → NotReady (Some (record { cap = cap; first = first; slots = slots })) → pending_from first slots es ≡ []
 nothing first cap [] es l s n = refl
 nothing first cap (Settled op ∷ slots) es l s n = absurd (n refl)
 nothing first cap (Open saved ∷ slots) [] l s n =
@@ -77,7 +77,7 @@ none_left : {E : Type 0} (es : List E) → length es ≡ 0 → es ≡ []
 none_left [] h = refl
 none_left (e ∷ es) h = absurd (omega (arith, h))
 
-pub nothing_pending : {C : Type 0} (ring : Option (Ring (Slot C))) (es : List (Entry C)) → length es ≡ 0 → IsSound ring es → NotReady ring → pending_of ring es ≡ []
+pub nothing_pending : {C : Type 0} (ring : Option (Ring (Slot C))) (es : List (Entry C)) → length es ≡ 0 → IsRingSound ring es → NotReady ring → pending_of ring es ≡ []
 nothing_pending None es l s n = none_left es l
 nothing_pending (Some r) es l s n = nothing r.first r.cap r.slots es l s n
 
@@ -90,7 +90,7 @@ counted_some m [] h = absurd (omega (arith, h))
 counted_some m (e ∷ es) h = counted_step (e.pos == m) e (filter (λ x. x.pos == m) es) (count_by (λ x. x.pos == m) es) (subst (λ k. 1 ≤ k) (count-cons (λ x. x.pos == m) e es) h) (counted_some m es)
 
 -- where something is held and the front isn't settled, it is open, and something is pending
-open_here : {C : Type 0} (first cap : ℕ) (slots : List (Slot C)) (e : Entry C) (es : List (Entry C)) → IsSound (Some (record { cap = cap; first = first; slots = slots })) (e ∷ es) → NotReady (Some (record { cap = cap; first = first; slots = slots })) → (front_of (record { cap = cap; first = first; slots = slots }) ≡ Front.Open first) × (0 < length (pending first slots (e ∷ es)))
+open_here : {C : Type 0} (first cap : ℕ) (slots : List (Slot C)) (e : Entry C) (es : List (Entry C)) → IsRingSound (Some (record { cap = cap; first = first; slots = slots })) (e ∷ es) → NotReady (Some (record { cap = cap; first = first; slots = slots })) → (front_of (record { cap = cap; first = first; slots = slots }) ≡ Front.Open first) × (0 < length (pending_from first slots (e ∷ es)))
 open_here first cap [] e es s n =
     let h = s.0 e.pos in let c = count-cons (λ x. x.pos == e.pos) e es in let o = is_one e.pos e.pos refl in absurd (omega (arith, h, c, o))
 open_here first cap (Settled op ∷ slots) e es s n = absurd (n refl)
@@ -98,9 +98,9 @@ open_here first cap (Open saved ∷ slots) e es s n =
     let m = first % 2 ^ 64 in
     let h = s.0 m in let c = count-cons (λ x. x == m) m (open_numbers (first + 1) slots) in let o = is_one m m refl in
     let some = counted_some m (e ∷ es) (omega (arith, h, c, o)) in
-    (refl, omega (arith, length-append (held_as m saved (e ∷ es)) (pending (first + 1) slots (e ∷ es)), length-map (filter (λ x. x.pos == m) (e ∷ es)) (with_pos saved), some))
+    (refl, omega (arith, length-append (held_as m saved (e ∷ es)) (pending_from (first + 1) slots (e ∷ es)), length-map (filter (λ x. x.pos == m) (e ∷ es)) (with_pos saved), some))
 
-pub open_front : {C : Type 0} (ring : Option (Ring (Slot C))) (es : List (Entry C)) → 0 < length es → IsSound ring es → NotReady ring → FrontOpen ring × (0 < length (pending_of ring es))
+pub open_front : {C : Type 0} (ring : Option (Ring (Slot C))) (es : List (Entry C)) → 0 < length es → IsRingSound ring es → NotReady ring → FrontOpen ring × (0 < length (pending_of ring es))
 open_front None es l s n = (tt, l)
 open_front (Some r) [] l s n = absurd (omega (arith, l))
 open_front (Some r) (e ∷ es) l s n = open_here r.first r.cap r.slots e es s n
@@ -113,16 +113,16 @@ length_filter : {C : Type 0} (m : ℕ) (es : List (Entry C)) → length (filter 
 length_filter m [] = refl
 length_filter m (e ∷ es) = length_filter_step (e.pos == m) e (filter (λ x. x.pos == m) es) (count_by (λ x. x.pos == m) es) (length_filter m es) ∙ sym (count-cons (λ x. x.pos == m) e es)
 
-length_each : {C : Type 0} (a : ℕ) (slots : List (Slot C)) (es : List (Entry C)) → ((n : ℕ) → IsIn n (open_numbers a slots) → count_by (λ (e : Entry C). e.pos == n) es ≡ 1) → length (pending a slots es) ≡ length slots
+length_each : {C : Type 0} (a : ℕ) (slots : List (Slot C)) (es : List (Entry C)) → ((n : ℕ) → IsIn n (open_numbers a slots) → count_by (λ (e : Entry C). e.pos == n) es ≡ 1) → length (pending_from a slots es) ≡ length slots
 length_each a [] es h = refl
 length_each a (Open saved ∷ slots) es h =
     let m = a % 2 ^ 64 in
     let r = length_each (a + 1) slots es (λ n i. h n (inr i)) in
-    omega (arith, r, length-append (held_as m saved es) (pending (a + 1) slots es), length-map (filter (λ x. x.pos == m) es) (with_pos saved), length_filter m es, h m (inl refl))
+    omega (arith, r, length-append (held_as m saved es) (pending_from (a + 1) slots es), length-map (filter (λ x. x.pos == m) es) (with_pos saved), length_filter m es, h m (inl refl))
 length_each a (Settled op ∷ slots) es h = ap suc (length_each (a + 1) slots es h)
 
 -- each slot is one that is pending
-pub length_pending : {C : Type 0} (r : Ring (Slot C)) (es : List (Entry C)) → IsSound (Some r) es → length (pending r.first r.slots es) ≡ length r.slots
+pub length_pending : {C : Type 0} (r : Ring (Slot C)) (es : List (Entry C)) → IsRingSound (Some r) es → length (pending_from r.first r.slots es) ≡ length r.slots
 length_pending r es s = length_each r.first r.slots es (λ n i. s.0 n ∙ exactly n r.first r.slots (omega (arith, s.1, s.2)) i)
 
 -- devices that hold nothing
@@ -133,7 +133,7 @@ hold_none held (suc w) (d ∷ devs) h =
     let a : held d ≡ [] = h 0 d (omega arith) in let r = hold_none held w devs (λ k x l. h (suc k) x (omega (arith, l))) in
     rw (a, r) refl
 
-pub new_sound : {C : Type 0} (n : ℕ) (ring : Option (Ring (Slot C))) (es : List (Entry C)) → es ≡ [] → n ≤ MAX_OPS → IsNewRing n ring → IsSound ring es
+pub new_sound : {C : Type 0} (n : ℕ) (ring : Option (Ring (Slot C))) (es : List (Entry C)) → es ≡ [] → n ≤ MAX_OPS → IsNewRing n ring → IsRingSound ring es
 new_sound n None es e l h = tt
 new_sound n (Some r) es e l h = rw (e, h) ((λ k. refl), omega arith, l, omega arith)
 
@@ -155,7 +155,7 @@ cap_none n e = cc
 cap_same : (a b : ℕ) → Some b ≡ Some a → b ≡ a
 cap_same a b e = cc
 
-pub fits_kept : {C : Type 0} (a b : Option (Ring (Slot C))) (n : ℕ) → cap_of b ≡ cap_of a → RingFits a n → RingFits b n
+pub fits_kept : {C : Type 0} (a b : Option (Ring (Slot C))) (n : ℕ) → ring_cap b ≡ ring_cap a → RingFits a n → RingFits b n
 fits_kept a None n e h = tt
 fits_kept None (Some b) n e h = absurd (cap_none b.cap e)
 fits_kept (Some a) (Some b) n e h = let s = cap_same a.cap b.cap e in omega (arith, s, h)

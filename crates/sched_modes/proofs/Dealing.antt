@@ -19,7 +19,7 @@ use Rattle.sched_core.proofs.Dealt.{some_at}
 use Rattle.sched_modes.specs.Crew.{Account, Does, IsEmptyRing, Places, Took, account, total, worker}
 use Rattle.sched_modes.specs.Dealing.{AreUnused, HasDealt, HasTaken, IsFrontOf, IsUnused, NoneStalled, Stays, assigned}
 use Rattle.sched_modes.specs.Running.{DoesCall, IsStarted, crew_of, first_places, mode_of, offers_by, pool_of, stopped_of}
-use Rattle.sched_modes.specs.Workers.{cap_of}
+use Rattle.sched_modes.specs.Workers.{ring_cap}
 use Rattle.sched_modes.specs.declared.running.Running.{Running}
 use Rattle.sched_modes.proofs.Bursts.{total_same}
 use Rattle.sched_modes.proofs.Crews.{count_workers, worker_at}
@@ -38,7 +38,7 @@ stays_two {D} a b c p q =
       others = ap (λ (w : ℕ). drop w c.devs) (sym workers) ∙ (q.others ∙ (ap (λ (w : ℕ). drop w b.devs) workers ∙ p.others));
     }
 
-ordering_kept : {C : Type 0} (a b : Option (Ring (Slot C))) → cap_of b ≡ cap_of a → is_some b ≡ is_some a
+ordering_kept : {C : Type 0} (a b : Option (Ring (Slot C))) → ring_cap b ≡ ring_cap a → is_some b ≡ is_some a
 ordering_kept None None e = refl
 ordering_kept None (Some b) e = absurd (let x : Some b.cap ≡ None = e in cc)
 ordering_kept (Some a) None e = absurd (let x : None ≡ Some a.cap = e in cc)

@@ -11,7 +11,7 @@ use Rattle.dev_core.specs.declared.driver.Driver.{Ghosts}
 use Rattle.sched_core.specs.declared.ring.Slot.{Slot}
 use Rattle.sched_core.specs.declared.ring.Slot.TheVariants.{Open, Settled}
 use Rattle.sched_core.specs.Ring.{Ring}
-use Rattle.sched_core.specs.Pending.{IsSound, open_numbers, pending_of, times}
+use Rattle.sched_core.specs.Pending.{IsRingSound, open_numbers, pending_of, times}
 use Rattle.sched_core.proofs.Lookup.{count-cons, is_one}
 use Rattle.sched_modes.specs.Crew.{DrawsFrom, IsEmptyRing, Kept, account, stalls_of}
 use Rattle.sched_modes.specs.Laws.{total_none}
@@ -19,7 +19,7 @@ use Rattle.sched_modes.specs.Workers.{EachStalled, NotReady, Serves, StopIs, pla
 use Rattle.sched_modes.proofs.Ahead.{nothing_pending, open_front}
 use Rattle.sched_modes.proofs.Crews.{count_workers, crew_stalls, deals_out, none_holds, of_worker, some_holds}
 
-no_slots : {C : Type 0} (r : Ring (Slot C)) (slots : List (Slot C)) (es : List (Entry C)) → r ≡ record { cap = r.cap; first = r.first; slots = slots } → length es ≡ 0 → IsSound (Some r) es → NotReady (Some r) → length r.slots ≡ 0
+no_slots : {C : Type 0} (r : Ring (Slot C)) (slots : List (Slot C)) (es : List (Entry C)) → r ≡ record { cap = r.cap; first = r.first; slots = slots } → length es ≡ 0 → IsRingSound (Some r) es → NotReady (Some r) → length r.slots ≡ 0
 no_slots r [] es e l s n = ap (λ (x : Ring _). length x.slots) e
 no_slots r (Open saved ∷ slots) es e l s n =
     let m = r.first % 2 ^ 64 in
@@ -31,12 +31,12 @@ no_slots r (Open saved ∷ slots) es e l s n =
 no_slots r (Settled op ∷ slots) es e l s n = absurd (n (ap (λ (x : Ring _). Rattle.sched_core.specs.Ring.front_of x) e))
 
 -- where the workers hold nothing and the front isn't settled, the ring is empty
-pub ring_empty : {C : Type 0} (ring : Option (Ring (Slot C))) (es : List (Entry C)) → length es ≡ 0 → IsSound ring es → NotReady ring → IsEmptyRing (places ring)
+pub ring_empty : {C : Type 0} (ring : Option (Ring (Slot C))) (es : List (Entry C)) → length es ≡ 0 → IsRingSound ring es → NotReady ring → IsEmptyRing (places ring)
 ring_empty None es l s n = tt
 ring_empty (Some r) es l s n = no_slots r r.slots es refl l s n
 
 pub draws_from : {C D : Type 0} (m : Ghosts D C) (w t asked n : ℕ) (devs devs' : List D) (ring ring' : Option (Ring (Slot C))) → w ≤ length devs → Serves m (λ k. []) w devs devs' → Kept (places ring) (places ring')
-    → (n < asked → EachStalled m w devs devs') → IsSound ring' (together m w devs') → (n < asked → NotReady ring')
+    → (n < asked → EachStalled m w devs devs') → IsRingSound ring' (together m w devs') → (n < asked → NotReady ring')
     → DrawsFrom (record { turn = t; workers = map (account m) (take w devs); ring = places ring }) asked n (record { turn = t; workers = map (account m) (take w devs'); ring = places ring' })
 draws_from m w t asked n devs devs' ring ring' within s kept stalled sound front =
     let count = count_workers m w devs within in
@@ -52,7 +52,7 @@ draws_from m w t asked n devs devs' ring ring' within s kept stalled sound front
 
 -- fewer came than were pending and asked for only where a worker stalled
 pub draws_less : {C D : Type 0} (m : Ghosts D C) (w t asked n : ℕ) (devs devs' : List D) (ring ring' : Option (Ring (Slot C))) (out pend : List (Entry C)) → w ≤ length devs → Serves m (λ k. []) w devs devs' → Kept (places ring) (places ring')
-    → (n < asked → EachStalled m w devs devs') → IsSound ring' (together m w devs') → (n < asked → NotReady ring') → IsPermutation (out ++ pending_of ring' (together m w devs')) pend → length out ≡ n → n < asked → n < length pend
+    → (n < asked → EachStalled m w devs devs') → IsRingSound ring' (together m w devs') → (n < asked → NotReady ring') → IsPermutation (out ++ pending_of ring' (together m w devs')) pend → length out ≡ n → n < asked → n < length pend
     → Rose (stalls_of (record { turn = t; workers = map (account m) (take w devs); ring = places ring })) (stalls_of (record { turn = t; workers = map (account m) (take w devs'); ring = places ring' }))
 draws_less m w t asked n devs devs' ring ring' out pend within s kept stalled sound front p len less fewer =
     let d = draws_from m w t asked n devs devs' ring ring' within s kept stalled sound front in
@@ -67,7 +67,7 @@ draws_less m w t asked n devs devs' ring ring' out pend within s kept stalled so
     (of_worker m w devs devs' (λ a b. Rose a.stalls b.stalls) h.0 lt within s.len (λ x. stalled less h.0 x lt (h.3 x)))
 
 -- why a pull of n ended
-pub stop_is : {C : Type 0} (ring : Option (Ring (Slot C))) (es : List (Entry C)) (n asked left : ℕ) → n ≤ asked → left ≡ capped (length es) → IsSound ring es → (n < asked → NotReady ring) → StopIs (stop_after n asked left) n asked (pending_of ring es) es
+pub stop_is : {C : Type 0} (ring : Option (Ring (Slot C))) (es : List (Entry C)) (n asked left : ℕ) → n ≤ asked → left ≡ capped (length es) → IsRingSound ring es → (n < asked → NotReady ring) → StopIs (stop_after n asked left) n asked (pending_of ring es) es
 stop_is ring es n asked left within is sound front = elim (eqb_tells n asked) [
   | inl e ↦ rw e.0 e.1
   | inr f ↦

@@ -22,3 +22,4 @@ pub mod Fair
 pub mod Assigning
 pub mod FiveOperations
 pub mod Dealing
+pub mod Crosses

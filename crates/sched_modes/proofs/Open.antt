@@ -9,7 +9,7 @@ use Rattle.crypto_op.specs.Op.{Entry}
 use Rattle.sched_core.specs.declared.ring.Slot.{Slot}
 use Rattle.sched_core.specs.declared.ring.Slot.TheVariants.{Open, Settled}
 use Rattle.sched_core.specs.Ring.{Ring}
-use Rattle.sched_core.specs.Pending.{pending, open_numbers, times, HoldsOpen, IsSound}
+use Rattle.sched_core.specs.Pending.{pending_from, open_numbers, times, HoldsOpen, IsRingSound}
 use Rattle.sched_core.proofs.Lookup.{IsIn, one, count-cons, count-append, is_one}
 use Rattle.sched_core.proofs.PendingMore.{pending-same, exactly}
 use Rattle.sched_core.proofs.Settling.{listed}
@@ -56,10 +56,10 @@ length_held r es h =
     let s = same_length (positions es) (open_numbers r.first r.slots) (λ n. sym (count_positions n es) ∙ h n) in
     omega (arith, s, length_positions es, length_open r.first r.slots)
 
-pub sound_moved : {C : Type 0} (r : Ring (Slot C)) (es fs : List (Entry C)) → IsPermutation es fs → IsSound (Some r) fs → IsSound (Some r) es
+pub sound_moved : {C : Type 0} (r : Ring (Slot C)) (es fs : List (Entry C)) → IsPermutation es fs → IsRingSound (Some r) fs → IsRingSound (Some r) es
 sound_moved r es fs p s = (λ n. sym (sum_by-IsPermutation (λ y. cond (y.pos == n) 1 0) es fs p) ∙ s.0 n, s.1, s.2, s.3)
 
-pub pending_moved : {C : Type 0} (r : Ring (Slot C)) (es fs : List (Entry C)) → IsPermutation es fs → IsSound (Some r) fs → pending r.first r.slots es ≡ pending r.first r.slots fs
+pub pending_moved : {C : Type 0} (r : Ring (Slot C)) (es fs : List (Entry C)) → IsPermutation es fs → IsRingSound (Some r) fs → pending_from r.first r.slots es ≡ pending_from r.first r.slots fs
 pending_moved r es fs p s =
     let t = sound_moved r es fs p s in
     let q : IsPermutation (es ++ []) fs = rw (append-nil es) p in

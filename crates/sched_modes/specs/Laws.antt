@@ -8,7 +8,7 @@ use Rattle.sched_core.specs.declared.ring.Slot.{Slot}
 use Rattle.sched_core.specs.Pending.{InOrder}
 use Rattle.sched_core.specs.Ring.{Ring}
 use Rattle.sched_modes.specs.Crew.{Account, Took, total}
-use Rattle.sched_modes.specs.Workers.{Goes, EachGoes, Serves, cap_of}
+use Rattle.sched_modes.specs.Workers.{Goes, EachGoes, Serves, ring_cap}
 use Rattle.sched_modes.specs.Pool.{Follows, WentOn}
 use Rattle.sched_modes.specs.declared.pool.Pool.{Pool}
 
@@ -59,7 +59,8 @@ went_two {m = m} on f g p q r x y = record {
   threshold = y.threshold ∙ x.threshold;
   sessions = y.sessions ∙ x.sessions;
   cap = y.cap ∙ x.cap;
-  devs = serves_two m on f g p.workers p.devs.items q.devs.items r.devs.items x.devs (subst (λ (w : ℕ). Serves m g w q.devs.items r.devs.items) x.workers y.devs);
+  devs = serves_two m on f g p.workers p.devs.items q.devs.items r.devs.items x.devs (subst (λ (w
+      : ℕ). Serves m g w q.devs.items r.devs.items) x.workers y.devs);
 }
 
 pub total_none : (w : ℕ) → total w (λ k. 0) ≡ 0
@@ -81,7 +82,8 @@ follows_two on p q r x y = record {
   went = went_two on x.parts y.parts p q r x.went y.went;
   enqueued =
       (let a = total_joined length length-append p.workers x.parts y.parts in
-      let b : total q.workers (λ k. length (y.parts k)) ≡ total p.workers (λ k. length (y.parts k)) = ap (λ (w : ℕ). total w (λ k. length (y.parts k))) x.went.workers in
+      let b : total q.workers (λ k. length (y.parts k))
+      ≡ total p.workers (λ k. length (y.parts k)) = ap (λ (w : ℕ). total w (λ k. length (y.parts k))) x.went.workers in
       omega (arith, a, b, x.enqueued, y.enqueued));
 }
 
@@ -89,7 +91,7 @@ none_some : {X : Type 0} (x : X) → Some x ≡ None → ⊥
 none_some x e = cc
 
 -- with a ring before, with one after
-pub order_kept : {C : Type 0} (a b : Option (Ring (Slot C))) → cap_of b ≡ cap_of a → InOrder a → InOrder b
+pub order_kept : {C : Type 0} (a b : Option (Ring (Slot C))) → ring_cap b ≡ ring_cap a → InOrder a → InOrder b
 order_kept None b e o = absurd o
 order_kept (Some a) None e o = absurd (none_some a.cap (sym e))
 order_kept (Some a) (Some b) e o = tt

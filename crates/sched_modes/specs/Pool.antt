@@ -8,7 +8,7 @@ use Rattle.dev_core.specs.declared.driver.LogEntry.{LogEntry}
 use Rattle.sched_core.specs.declared.mode.Mode.{Mode}
 use Rattle.sched_core.specs.Stopped.{Stopped}
 use Rattle.sched_modes.specs.Crew.{Crew, account, stalls_of, total}
-use Rattle.sched_modes.specs.Workers.{together, pending_with, places, cap_of, Serves}
+use Rattle.sched_modes.specs.Workers.{together, pending_with, places, ring_cap, Serves}
 use Rattle.sched_modes.specs.declared.pool.Pool.{Pool}
 
 -- what its workers hold
@@ -28,14 +28,21 @@ stalls_in p = stalls_of (crew 0 p)
 
 -- what it is made of, once it is stopped
 abbrev pub stopped : {C D : Type 0} {m : Ghosts D C} → Mode → Pool C D m → Stopped D
-stopped mode p = record { mode = mode; ordering = is_some p.ring; threshold = p.threshold; sessions = arc_value p.sessions; devs = p.devs.items; workers = p.workers }
+stopped mode p = record {
+  mode = mode;
+  ordering = is_some p.ring;
+  threshold = p.threshold;
+  sessions = arc_value p.sessions;
+  devs = p.devs.items;
+  workers = p.workers;
+}
 
 -- each worker went on, and took its part
 pub record WentOn {C D : Type 0} {m : Ghosts D C} (parts : ℕ → List LogEntry) (p q : Pool C D m) : Type 0 where
   pub workers : q.workers ≡ p.workers
   pub threshold : q.threshold ≡ p.threshold
   pub sessions : q.sessions ≡ p.sessions
-  pub cap : cap_of q.ring ≡ cap_of p.ring
+  pub cap : ring_cap q.ring ≡ ring_cap p.ring
   pub devs : Serves m parts p.workers p.devs.items q.devs.items
 
 -- What burst calls keep. For some lists of operations, each worker went on and took its own, and the lengths of these lists

@@ -10,7 +10,7 @@ use Rattle.dev_core.specs.declared.driver.Driver.{Ghosts}
 use Rattle.dev_core.specs.declared.driver.LogEntry.{LogEntry}
 use Rattle.sched_core.specs.declared.ring.Front.TheVariants as Front
 use Rattle.sched_core.specs.declared.ring.Slot.{Slot}
-use Rattle.sched_core.specs.Pending.{pending_of, IsSound, RingDone, SlotDone}
+use Rattle.sched_core.specs.Pending.{pending_of, IsRingSound, RingDone, SlotDone}
 use Rattle.sched_core.specs.Ring.{Ring, front_of, number}
 use Rattle.sched_modes.specs.Crew.{IsCause, Places, Took, account}
 use Rattle.sched_modes.specs.declared.pull.Stop.{Stop}
@@ -27,8 +27,8 @@ pending_with m ring w devs = pending_of ring (together m w devs)
 abbrev pub places : {C : Type 0} → Option (Ring (Slot C)) → Option Places
 places ring = option_map (λ r. record { cap = r.cap; slots = length r.slots; next = number r (length r.slots) }) ring
 
-abbrev pub cap_of : {C : Type 0} → Option (Ring (Slot C)) → Option ℕ
-cap_of ring = option_map (λ r. r.cap) ring
+abbrev pub ring_cap : {C : Type 0} → Option (Ring (Slot C)) → Option ℕ
+ring_cap ring = option_map (λ r. r.cap) ring
 
 -- a device went on, and took these operations
 pub record Goes {C D : Type 0} (m : Ghosts D C) (ops : List LogEntry) (d e : D) : Type 0 where
@@ -112,7 +112,7 @@ StopIs Max n asked pending held = n ≡ asked
 StopIs Empty n asked pending held = (n < asked) × (pending ≡ [])
 StopIs (NotYet left) n asked pending held = (n < asked) × (0 < left) × (left ≡ capped (length held)) × (0 < length pending)
 
-pub sound_is : {C : Type 0} (o : Option (Ring (Slot C))) (es : List (Entry C)) → IsProp (IsSound o es)
+pub sound_is : {C : Type 0} (o : Option (Ring (Slot C))) (es : List (Entry C)) → IsProp (IsRingSound o es)
 sound_is None es = hlevel (props)
 sound_is (Some r) es = hlevel (props)
 

@@ -5,10 +5,10 @@ ghost use Rattle.crypto_model.specs.Counts.{capped};
 ghost use Rattle.crypto_model.specs.Process.{Transform};
 ghost use Rattle.crypto_op.specs.Op.{IsDone};
 ghost use Rattle.dev_core.specs.Burst.{room_of, added, with_ops};
-ghost use Rattle.sched_core.specs.Pending.{pending_of, IsSound, SlotDone, RingDone, InOrder};
+ghost use Rattle.sched_core.specs.Pending.{pending_of, IsRingSound, SlotDone, RingDone, InOrder};
 ghost use Rattle.sched_core.specs.Stopped.{EachAlike};
 ghost use Rattle.sched_modes.specs.Crew.{Kept};
-ghost use Rattle.sched_modes.specs.Workers.{CameInOrder, CameOut, EachStalled, NotReady, RingFits, Serves, Taken, together, pending_with, places, cap_of};
+ghost use Rattle.sched_modes.specs.Workers.{CameInOrder, CameOut, EachStalled, NotReady, RingFits, Serves, Taken, together, pending_with, places, ring_cap};
 
 use crypto_op::OpBurst;
 use dev_core::Driver;
@@ -22,10 +22,10 @@ fn collect<C: Drop, D: Driver<C>>(
     scratch: &mut OpBurst<C>,
 )
     requires workers { workers ≤ vec_len devs.old }
-    requires sound { IsSound (Some ring.old) (together D.Driver workers devs.old.items) }
+    requires sound { IsRingSound (Some ring.old) (together D.Driver workers devs.old.items) }
     requires empty { scratch.old.ops ≡ [] }
     requires fits { ring.old.cap ≤ scratch.old.cap }
-    ensures sound { IsSound (Some ring.new) (together D.Driver workers devs.new.items) }
+    ensures sound { IsRingSound (Some ring.new) (together D.Driver workers devs.new.items) }
     ensures pending { pending_of (Some ring.new) (together D.Driver workers devs.new.items)
         ≡ pending_of (Some ring.old) (together D.Driver workers devs.old.items) }
     ensures done { (sessions : List (List Transform))
@@ -106,7 +106,7 @@ pub(crate) fn draw<C: Drop, D: Driver<C>>(
     asked: usize,
 ) -> usize
     requires workers { workers ≤ vec_len devs.old }
-    requires sound { IsSound ring.old (together D.Driver workers devs.old.items) }
+    requires sound { IsRingSound ring.old (together D.Driver workers devs.old.items) }
     requires empty { scratch.old.ops ≡ [] }
     requires fits { RingFits ring.old scratch.old.cap }
     requires room { asked ≤ room_of out.old }
@@ -121,10 +121,10 @@ pub(crate) fn draw<C: Drop, D: Driver<C>>(
         → EachAlike D.sessions sessions workers devs.old.items → RingDone sessions ring.old → All (IsDone sessions) (added out.old out.new) }
     ensures answered { (sessions : List (List Transform))
         → EachAlike D.sessions sessions workers devs.old.items → RingDone sessions ring.old → RingDone sessions ring.new }
-    ensures sound { IsSound ring.new (together D.Driver workers devs.new.items) }
+    ensures sound { IsRingSound ring.new (together D.Driver workers devs.new.items) }
     ensures fits { RingFits ring.new scratch.old.cap }
     ensures scratch { scratch.new ≡ scratch.old }
-    ensures cap { cap_of ring.new ≡ cap_of ring.old }
+    ensures cap { ring_cap ring.new ≡ ring_cap ring.old }
     ensures ring { Kept (places ring.old) (places ring.new) }
     ensures front { result < asked → NotReady ring.new }
     ensures serves { Serves D.Driver (λ k. []) workers devs.old.items devs.new.items }

@@ -4,9 +4,9 @@ ghost use Rattle.std.specs.List.{All};
 ghost use Rattle.crypto_model.specs.Process.{Transform};
 ghost use Rattle.crypto_op.specs.Op.{IsFresh};
 ghost use Rattle.dev_core.specs.Burst.{offered, rest_of, front, front_log};
-ghost use Rattle.sched_core.specs.Pending.{IsSound, RingDone, InOrder};
+ghost use Rattle.sched_core.specs.Pending.{IsRingSound, RingDone, InOrder};
 ghost use Rattle.sched_modes.specs.Crew.{Grew, free, only_for, told};
-ghost use Rattle.sched_modes.specs.Workers.{HasCause, RoomFell, SameBut, Serves, WentIn, WentInOrder, together, pending_with, places, cap_of};
+ghost use Rattle.sched_modes.specs.Workers.{HasCause, RoomFell, SameBut, Serves, WentIn, WentInOrder, together, pending_with, places, ring_cap};
 
 use crypto_op::OpBurst;
 use dev_core::Driver;
@@ -36,16 +36,16 @@ pub(crate) fn offer<C: Drop, D: Driver<C>>(
     requires turn { turn < workers }
     requires workers { workers ≤ vec_len devs.old }
     requires fresh { All IsFresh (take max burst.old.ops) }
-    requires sound { IsSound ring.old (together D.Driver workers devs.old.items) }
+    requires sound { IsRingSound ring.old (together D.Driver workers devs.old.items) }
     ensures offered { result ≤ free (places ring.old) (offered max burst.old) }
     ensures rest { burst.new ≡ rest_of result burst.old }
     ensures pending { WentIn (front result burst.old)
         (pending_with D.Driver ring.old workers devs.old.items) (pending_with D.Driver ring.new workers devs.new.items) }
     ensures in_order { InOrder ring.old → WentInOrder (front result burst.old)
         (pending_with D.Driver ring.old workers devs.old.items) (pending_with D.Driver ring.new workers devs.new.items) }
-    ensures sound { IsSound ring.new (together D.Driver workers devs.new.items) }
+    ensures sound { IsRingSound ring.new (together D.Driver workers devs.new.items) }
     ensures answered { (sessions : List (List Transform)) → RingDone sessions ring.old → RingDone sessions ring.new }
-    ensures cap { cap_of ring.new ≡ cap_of ring.old }
+    ensures cap { ring_cap ring.new ≡ ring_cap ring.old }
     ensures ring { Grew result (places ring.old) (places ring.new) }
     ensures serves { Serves D.Driver (only_for turn (told (places ring.old) (front_log result burst.old))) workers devs.old.items devs.new.items }
     ensures same { SameBut turn devs.old.items devs.new.items }

@@ -1,7 +1,7 @@
 //! Workers that stand together, with an order ring or without.
 ghost use Rattle.std.specs.Prelude.{◌≡◌, ◌<◌, ◌≤◌, [], vec_len};
 ghost use Rattle.std.specs.Arc.{arc_value};
-ghost use Rattle.sched_core.specs.Pending.{IsSound, RingDone};
+ghost use Rattle.sched_core.specs.Pending.{IsRingSound, RingDone};
 ghost use Rattle.sched_core.specs.Stopped.{EachAlike};
 ghost use Rattle.sched_modes.specs.Workers.{together, RingFits, pool_props, stop_after};
 
@@ -28,7 +28,7 @@ pub struct Pool<C, D: Driver<C>> {
     pub(crate) stats: Stats,
     ghost sizes: { (0 < workers) × (workers ≤ vec_len devs) × (workers ≤ 8) },
     ghost alike: { EachAlike D.sessions (arc_value sessions) workers devs.items },
-    ghost sound: { IsSound ring (together D.Driver workers devs.items) } by { Prim.hlevel pool_props },
+    ghost sound: { IsRingSound ring (together D.Driver workers devs.items) } by { Prim.hlevel pool_props },
     ghost answered: { RingDone (arc_value sessions) ring } by { Prim.hlevel pool_props },
     ghost empty: { scratch.ops ≡ [] },
     ghost fits: { RingFits ring scratch.cap } by { Prim.hlevel pool_props },

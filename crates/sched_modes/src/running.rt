@@ -29,7 +29,7 @@ impl<C: Drop, D: Driver<C>> Running<C, D> {
     ghost use Rattle.crypto_op.specs.Op.{IsDone};
     ghost use Rattle.dev_core.specs.Burst.{room_of, added, with_ops};
     ghost use Rattle.dev_core.specs.Stats.{after_dequeue};
-    ghost use Rattle.sched_core.specs.Pending.{InOrder, IsSound, RingDone};
+    ghost use Rattle.sched_core.specs.Pending.{InOrder, IsRingSound, RingDone};
     ghost use Rattle.sched_core.specs.Stopped.{AreAlike};
     ghost use Rattle.sched_modes.specs.Crew.{DrawsFrom};
     ghost use Rattle.sched_modes.specs.Pool.{Follows};
@@ -64,7 +64,7 @@ impl<C: Drop, D: Driver<C>> Running<C, D> {
         ensures count { result ≡ capped (length (pending self.now)) }
         // With ordering on each number of the ring is settled, or is held by one worker, once, and the workers
         // hold nothing else. With ordering off what they hold is pending.
-        ensures numbers { IsSound (pool_of self.now).ring (at_work self.now) }
+        ensures numbers { IsRingSound (pool_of self.now).ring (at_work self.now) }
         ensures answers { RingDone (arc_value (pool_of self.now).sessions) (pool_of self.now).ring }
     {
         match self {

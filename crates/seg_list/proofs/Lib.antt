@@ -1,2 +1,9 @@
+pub mod Chained
+pub mod ChainSteps
+pub mod Crosses
 pub mod Cuts
 pub mod Laid
+pub mod LastTaken
+pub mod Lent
+pub mod LooseSteps
+pub mod Shared

@@ -1,6 +1,7 @@
 -- A segment's buffer, as its bytes before, in and behind the data.
 use Rattle.std.specs.Prelude.{◌≡◌, ℕ, ◌+◌, List, ◌++◌, length, take, drop}
 use Rattle.crypto_model.specs.Chain.{laid_at}
+use Rattle.seg_list.specs.declared.seg.TheConstants.{SEG_SIZE}
 
 pub record Buffer : Type 0 where
   pub before : List ℕ
@@ -20,7 +21,7 @@ with_data b bytes = record b { body = bytes }
 
 -- as long as a segment's buffer
 abbrev pub IsWhole : Buffer → Type 0
-IsWhole b = length b.before + length b.body + length b.after ≡ 2048
+IsWhole b = length b.before + length b.body + length b.after ≡ SEG_SIZE
 
 -- the same buffer with bytes laid over it from byte at of the data on
 abbrev pub relaid_at : ℕ → Buffer → List ℕ → Buffer

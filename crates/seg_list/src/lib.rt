@@ -12,14 +12,18 @@
 //! it is written there and nowhere else. The proved test `a_segment_in_the_middle_is_changed` is a short caller.
 #![tactic(auto)]
 
+mod chain;
 mod iter;
 mod list;
+mod node;
 mod seg;
+mod steps;
 mod walk;
 
 pub use iter::SegIter;
-pub use list::SegList;
-pub use seg::Seg;
+pub use list::{MAX_SEGS, SegList};
+pub use seg::{SEG_SIZE, Seg};
+pub use steps::Steps;
 pub use walk::Walk;
 
 #[cfg(test)]

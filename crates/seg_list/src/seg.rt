@@ -8,9 +8,10 @@ use crypto_model::OutOfMemory;
 use std::alloc::Global;
 use std::marker::Model;
 
-const SIZE: usize = 2048;
+/// The bytes of a segment's buffer.
+pub const SEG_SIZE: usize = 2048;
 
-/// A buffer of 2,048 bytes with the offset and the length of its data, which contracts see as the bytes
+/// A buffer of [`SEG_SIZE`] bytes with the offset and the length of its data, which contracts see as the bytes
 /// before the data, the data, and the bytes behind it.
 #[derive(Drop)]
 pub struct Seg {
@@ -22,27 +23,28 @@ pub struct Seg {
 impl Model for Seg {
     ghost use Rattle.std.specs.Prelude.{◌≡◌, ◌+◌, ◌≤◌, length};
     ghost use Rattle.seg_list.specs.Buffer.{Buffer, cut_at};
+    ghost use Rattle.seg_list.specs.declared.seg.TheConstants.{SEG_SIZE};
 
     ghost Value = { Buffer };
 
     ghost view = { λ s. cut_at s.off s.len s.buf.items };
 
-    ghost invariant = { λ s. (length s.buf.items ≡ 2048) × (s.off + s.len ≤ 2048) };
+    ghost invariant = { λ s. (length s.buf.items ≡ SEG_SIZE) × (s.off + s.len ≤ SEG_SIZE) };
 }
 
 impl Seg {
     /// A buffer of zeros whose data is empty and begins at `off`.
     pub fn new(alloc: Global, off: usize) -> Result<Seg, OutOfMemory>
-        requires { off ≤ 2048 }
-        ensures { IfOk result (λ s. s ≡ record { before = replicate off 0; body = []; after = replicate (2048 - off) 0 }) }
+        requires { off ≤ SEG_SIZE }
+        ensures { IfOk result (λ s. s ≡ record { before = replicate off 0; body = []; after = replicate (SEG_SIZE - off) 0 }) }
     {
-        let buf = Vec::from_elem(alloc, 0u8, SIZE)?;
+        let buf = Vec::from_elem(alloc, 0u8, SEG_SIZE)?;
         Ok(Seg { buf, off, len: 0 })
     }
 
     /// Moves the data's place. The bytes of the buffer stay.
     pub fn set(&mut self, off: usize, len: usize)
-        requires { off + len ≤ 2048 }
+        requires { off + len ≤ SEG_SIZE }
         ensures { self.new ≡ cut_at off len (bytes_of self.old) }
     {
         self.off = off;

@@ -1,7 +1,10 @@
 use crate::{Seg, SegList};
 use std::alloc::Global;
 use std::process::Abort;
+use std::sync::Wait;
 use std::test::Fail;
+use std::thread;
+use std::thread::Threads;
 
 // A segment whose data is 16 bytes from 120 on.
 fn sixteen_bytes(alloc: Global) -> Result<Seg, Fail> {
@@ -120,14 +123,30 @@ fn a_segment_in_the_middle_is_changed(rt: HostRuntime) -> Result<(), Fail> {
     Ok(())
 }
 
+// A list of `count` segments whose offsets count on from `from`.
+fn counting(alloc: Global, from: usize, count: usize) -> Result<SegList, Fail> {
+    let mut list = SegList::new(alloc)?;
+    for i in 0..count {
+        push(alloc, &mut list, from.saturating_add(i))?;
+    }
+    Ok(list)
+}
+
 #[test]
 fn append_moves_all_behind(rt: HostRuntime) -> Result<(), Fail> {
-    let mut list = list_of(rt.alloc(), &[11, 22])?;
-    let other = list_of(rt.alloc(), &[33, 44, 55])?;
-    assert!(rt; list.len() == 2);
-    assert!(rt; other.len() == 3);
-    list.append(other);
-    assert_offs(&rt, &list, &[11, 22, 33, 44, 55]);
+    let alloc = rt.alloc();
+    for (front, back) in [(1, 255), (255, 1), (0, 256), (2, 0)] {
+        let list = counting(alloc, 0, front)?;
+        let other = counting(alloc, front, back)?;
+        assert!(rt; list.len() + other.len() <= 256);
+        let list = list.followed_by(other);
+        let mut at = 0usize;
+        for seg in list.iter() {
+            assert_eq!(rt; seg.off(), at);
+            at = at.saturating_add(1);
+        }
+        assert_eq!(rt; at, front + back);
+    }
     Ok(())
 }
 
@@ -150,5 +169,28 @@ fn sent<T: Send>(value: T) -> T {
 fn lists_and_segments_can_be_sent(rt: HostRuntime) -> Result<(), Fail> {
     assert_eq!(rt; sent(list_of(rt.alloc(), &[11])?).len(), 1);
     assert_eq!(rt; sent(Seg::new(rt.alloc(), 22)?).off(), 22);
+    Ok(())
+}
+
+// Takes the last segment in a second thread, and gives the list back.
+fn popped_elsewhere<R: Threads + Wait + Sync>(rt: &R, list: SegList) -> Option<SegList> {
+    let (_, list) = thread::join(
+        rt,
+        || (),
+        move || {
+            let mut list = list;
+            let _ = list.pop_back()?;
+            Some(list)
+        },
+    );
+    list
+}
+
+#[test]
+fn a_list_goes_to_another_thread_and_back(rt: HostRuntime) -> Result<(), Fail> {
+    let list = list_of(rt.alloc(), &[11, 22, 33])?;
+    let mut list = popped_elsewhere(&rt, list).ok_or("a list")?;
+    push(rt.alloc(), &mut list, 44)?;
+    assert_offs(&rt, &list, &[11, 22, 44]);
     Ok(())
 }

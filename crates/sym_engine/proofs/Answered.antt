@@ -11,7 +11,7 @@ use Rattle.crypto_op.specs.declared.op.Op.{Op}
 use Rattle.crypto_op.specs.declared.spec.OpSpec.{OpSpec}
 use Rattle.sym_session.specs.declared.step.Step.{Step}
 use Rattle.sym_session.specs.Plain.{plain}
-use Rattle.sym_engine.specs.Working.{asked, work_of, with_answer}
+use Rattle.sym_engine.specs.Working.{input_for, work_of, with_answer}
 
 pub no_session : (sessions : List (List Transform)) (input : Input) → slice_get sessions input.session.0 ≡ None → processed sessions input ≡ refused InvalidSession input
 unfolding processed
@@ -58,13 +58,13 @@ done_by {C = C} sessions old new a fresh is new_is =
 
 -- the checks of an operation, as they are made on the steps of its session
 pub fit_as : (steps : List Step) (session : List Transform) (given spec : OpSpec) (p : List ℕ) (b : Bool) → map plain steps ≡ session → given ≡ spec
-    → b ≡ fits (asked given p) (map plain steps) → b ≡ fits (asked spec p) session
-fit_as steps session given spec p b same is holds = holds ∙ ap (λ (s : OpSpec). fits (asked s p) (map plain steps)) is ∙ ap (fits (asked spec p)) same
+    → b ≡ fits (input_for given p) (map plain steps) → b ≡ fits (input_for spec p) session
+fit_as steps session given spec p b same is holds = holds ∙ ap (λ (s : OpSpec). fits (input_for s p) (map plain steps)) is ∙ ap (fits (input_for spec p)) same
 
 -- and their work
 pub work_as : (steps : List Step) (session : List Transform) (given spec : OpSpec) (c : List Buffer) (o : Option Work) → map plain steps ≡ session → given ≡ spec
-    → all_worked (map plain steps) (asked spec (packet_of c)) (Some (work_of c given.digest)) ≡ o
-    → all_worked session (asked spec (packet_of c)) (Some (work_of c spec.digest)) ≡ o
+    → all_worked (map plain steps) (input_for spec (packet_of c)) (Some (work_of c given.digest)) ≡ o
+    → all_worked session (input_for spec (packet_of c)) (Some (work_of c spec.digest)) ≡ o
 work_as steps session given spec c o same is works =
-    sym (ap (λ ts. all_worked ts (asked spec (packet_of c)) (Some (work_of c spec.digest))) same)
-    ∙ sym (ap (λ (s : OpSpec). all_worked (map plain steps) (asked spec (packet_of c)) (Some (work_of c s.digest))) is) ∙ works
+    sym (ap (λ ts. all_worked ts (input_for spec (packet_of c)) (Some (work_of c spec.digest))) same)
+    ∙ sym (ap (λ (s : OpSpec). all_worked (map plain steps) (input_for spec (packet_of c)) (Some (work_of c s.digest))) is) ∙ works

@@ -4,3 +4,4 @@ pub mod Written
 pub mod Ordered
 pub mod Answered
 pub mod Sealed
+pub mod Crosses

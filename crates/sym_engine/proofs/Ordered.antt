@@ -16,7 +16,7 @@ use Rattle.crypto_op.specs.declared.spec.OpSpec.{OpSpec}
 use Rattle.sym_session.specs.declared.step.Step.{Step}
 use Rattle.sym_session.specs.First.{never_fails, VerifiesFirst}
 use Rattle.sym_session.specs.Plain.{plain}
-use Rattle.sym_engine.specs.Working.{asked, place_ready, ready}
+use Rattle.sym_engine.specs.Working.{input_for, place_ready, ready}
 use Rattle.crypto_model.proofs.Both.{both}
 use Rattle.sym_engine.proofs.EachItem.{one_of_all}
 
@@ -43,11 +43,11 @@ only_first [] i step input w first within is none = absurd (omega arith)
 only_first (s ∷ ss) zero step input w first within is none = refl
 only_first (s ∷ ss) (suc i) step input w first within is none = absurd (cannot_fail (plain step) input w (one_of_all never_fails plain ss i step (omega arith) is first) none)
 
-place_is_ready : (spec : OpSpec) (p q : List ℕ) (all : List Transform) (n : ℕ) (place : DigestPlace) → length q ≡ length p → place_holds (asked spec p) all n place ≡ true → place_ready n q place
+place_is_ready : (spec : OpSpec) (p q : List ℕ) (all : List Transform) (n : ℕ) (place : DigestPlace) → length q ≡ length p → place_holds (input_for spec p) all n place ≡ true → place_ready n q place
 place_is_ready spec p q all n Nowhere same h = (cc)
 place_is_ready spec p q all n OwnField same h = tt
 place_is_ready spec p q all n (InChain at) same h =
-    let g = leb-true (at + n) (length p) (both (nat_le (at + n) (length p)) (list_all (digest_apart (asked spec p) at n) all) h).0 in omega (arith, g, same)
+    let g = leb-true (at + n) (length p) (both (nat_le (at + n) (length p)) (list_all (digest_apart (input_for spec p) at n) all) h).0 in omega (arith, g, same)
 
 data_is_ready : (alg : CipherAlg) (dir : Dir) (key : List ℕ) (input : Input) → data_fits input (Cipher alg dir key) ≡ true → alg ≡ AesCbc → input.cipher.len % 16 ≡ 0
 data_is_ready AesCbc dir key input h e = eqb-true (input.cipher.len % 16) 0 h
@@ -70,16 +70,16 @@ fits_apart input all t h =
     record { range = a.0; iv = b.0; aad = c.0; data_is = d.0; place = d.1 }
 
 -- the checks give a transform what it needs, at any packet of that length
-pub made_ready : (spec : OpSpec) (p q : List ℕ) (all : List Transform) (t : Transform) → length q ≡ length p → transform_fits (asked spec p) all t ≡ true → ready (asked spec q) t
+pub made_ready : (spec : OpSpec) (p q : List ℕ) (all : List Transform) (t : Transform) → length q ≡ length p → transform_fits (input_for spec p) all t ≡ true → ready (input_for spec q) t
 made_ready spec p q all (Cipher alg dir key) same h =
-    let f = fits_apart (asked spec p) all (Cipher alg dir key) h in
+    let f = fits_apart (input_for spec p) all (Cipher alg dir key) h in
     let r = leb-true (spec.cipher.off + spec.cipher.len) (length p) f.range in
-    (omega (arith, r, same), eqb-true (length spec.iv) 16 f.iv, data_is_ready alg dir key (asked spec p) f.data_is)
+    (omega (arith, r, same), eqb-true (length spec.iv) 16 f.iv, data_is_ready alg dir key (input_for spec p) f.data_is)
 made_ready spec p q all (Auth hash act key n) same h =
-    let f = fits_apart (asked spec p) all (Auth hash act key n) h in
+    let f = fits_apart (input_for spec p) all (Auth hash act key n) h in
     let r = leb-true (spec.auth.off + spec.auth.len) (length p) f.range in
     (omega (arith, r, same), place_is_ready spec p q all n spec.place same f.place)
 made_ready spec p q all (Aead dir key n aad_len) same h =
-    let f = fits_apart (asked spec p) all (Aead dir key n aad_len) h in
+    let f = fits_apart (input_for spec p) all (Aead dir key n aad_len) h in
     let r = leb-true (spec.cipher.off + spec.cipher.len) (length p) f.range in
     (omega (arith, r, same), eqb-true (length spec.iv) 12 f.iv, place_is_ready spec p q all n spec.place same f.place)

@@ -11,7 +11,7 @@ use Rattle.crypto_model.specs.declared.plain.Dir.TheVariants.{Encrypt, Decrypt}
 use Rattle.seg_list.specs.Buffer.{Buffer}
 use Rattle.mbuf_chain.specs.Chain.{packet_of, with_packet}
 use Rattle.crypto_op.specs.declared.spec.OpSpec.{OpSpec}
-use Rattle.sym_engine.specs.Working.{asked, place_ready, work_of, IsWritten}
+use Rattle.sym_engine.specs.Working.{input_for, place_ready, work_of, IsWritten}
 use Rattle.sym_engine.proofs.Written.{digest_written, written_laid, written_twice}
 
 -- a digest of as many bytes still has its place in a packet that is as long
@@ -37,7 +37,7 @@ pub sealed : (spec : OpSpec) (p key : List ℕ) (n aad_len : ℕ) (c d e : List 
     → code ≡ take n tag
     → e ≡ with_packet d (with_digest spec.place code (work_of d digest)).packet
     → after ≡ (with_digest spec.place code (work_of d digest)).digest
-    → (worked (Aead Encrypt key n aad_len) (asked spec p) (work_of c digest) ≡ Some (work_of e after)) × IsWritten c e
+    → (worked (Aead Encrypt key n aad_len) (input_for spec p) (work_of c digest) ≡ Some (work_of e after)) × IsWritten c e
 sealed spec p key n aad_len c d e digest after code tag text_is tag_is code_is chain_is after_is =
     let wanted = take n (gcm_tag (cipher key) spec.iv spec.aad (turned key spec c)) in
     let l = written_laid c d spec.cipher.off (turned key spec c) text_is in
@@ -50,14 +50,14 @@ sealed spec p key n aad_len c d e digest after code tag text_is tag_is code_is c
 pub opened : (spec : OpSpec) (p key : List ℕ) (n aad_len : ℕ) (c d : List Buffer) (digest : List ℕ)
     → bytes_eq (digest_at spec.place n (work_of c digest)) (take n (gcm_tag (cipher key) spec.iv spec.aad (data_of spec c))) ≡ true
     → d ≡ with_packet c (laid_at spec.cipher.off (turned key spec c) (packet_of c))
-    → (worked (Aead Decrypt key n aad_len) (asked spec p) (work_of c digest) ≡ Some (work_of d digest)) × IsWritten c d
+    → (worked (Aead Decrypt key n aad_len) (input_for spec p) (work_of c digest) ≡ Some (work_of d digest)) × IsWritten c d
 opened spec p key n aad_len c d digest holds text_is =
     let l = written_laid c d spec.cipher.off (turned key spec c) text_is in
     (rw holds (ap (λ (ys : List ℕ). let w : Work = record { packet = ys; digest = digest } in let o : Option Work = Some w in o) (sym l.0)), l.1)
 
 pub forged : (spec : OpSpec) (p key : List ℕ) (n aad_len : ℕ) (c : List Buffer) (digest : List ℕ)
     → bytes_eq (digest_at spec.place n (work_of c digest)) (take n (gcm_tag (cipher key) spec.iv spec.aad (data_of spec c))) ≡ false
-    → worked (Aead Decrypt key n aad_len) (asked spec p) (work_of c digest) ≡ None
+    → worked (Aead Decrypt key n aad_len) (input_for spec p) (work_of c digest) ≡ None
 forged spec p key n aad_len c digest fails = rw fails refl
 
 -- what is asked for, under the names that a call has for it

@@ -3,7 +3,7 @@ ghost use Rattle.std.specs.Prelude.{◌≡◌, ℕ, List, map, length, ◌&&◌,
 ghost use Rattle.std.specs.List.{list_all};
 ghost use Rattle.crypto_model.specs.Process.{lies_in, apart, range_of, digest_apart, iv_fits, aad_fits, data_fits, place_holds, transform_fits, fits};
 ghost use Rattle.sym_session.specs.Plain.{plain};
-ghost use Rattle.sym_engine.specs.Working.{asked};
+ghost use Rattle.sym_engine.specs.Working.{input_for};
 
 use crypto_model::{CipherAlg, DigestPlace, Range};
 use crypto_op::OpSpec;
@@ -30,7 +30,7 @@ fn is_apart(range: Range, at: usize, n: usize) -> bool
 }
 
 fn range_for(step: &Step, spec: &OpSpec) -> Range
-    ensures { (p : List ℕ) → result ≡ range_of (asked spec.now p) (plain step.now) }
+    ensures { (p : List ℕ) → result ≡ range_of (input_for spec.now p) (plain step.now) }
 {
     match step {
         Step::Cipher(_) | Step::Aead(_) => spec.cipher,
@@ -39,7 +39,7 @@ fn range_for(step: &Step, spec: &OpSpec) -> Range
 }
 
 fn iv_holds(step: &Step, spec: &OpSpec) -> bool
-    ensures { (p : List ℕ) → result ≡ iv_fits (asked spec.now p) (plain step.now) }
+    ensures { (p : List ℕ) → result ≡ iv_fits (input_for spec.now p) (plain step.now) }
 {
     match step {
         Step::Cipher(_) => spec.iv.bytes().len() == 16,
@@ -49,7 +49,7 @@ fn iv_holds(step: &Step, spec: &OpSpec) -> bool
 }
 
 fn aad_holds(step: &Step, spec: &OpSpec) -> bool
-    ensures { (p : List ℕ) → result ≡ aad_fits (asked spec.now p) (plain step.now) }
+    ensures { (p : List ℕ) → result ≡ aad_fits (input_for spec.now p) (plain step.now) }
 {
     match step {
         Step::Cipher(_) | Step::Auth(_) => true,
@@ -58,7 +58,7 @@ fn aad_holds(step: &Step, spec: &OpSpec) -> bool
 }
 
 fn data_holds(step: &Step, spec: &OpSpec) -> bool
-    ensures { (p : List ℕ) → result ≡ data_fits (asked spec.now p) (plain step.now) }
+    ensures { (p : List ℕ) → result ≡ data_fits (input_for spec.now p) (plain step.now) }
 {
     match step {
         Step::Cipher(step) => match step.alg {
@@ -71,7 +71,7 @@ fn data_holds(step: &Step, spec: &OpSpec) -> bool
 
 // Whether the digest's bytes in the packet share none with a range that the session uses.
 fn digest_is_apart(steps: &[Step], spec: &OpSpec, at: usize, n: usize) -> bool
-    ensures { (p : List ℕ) → result ≡ list_all (digest_apart (asked spec.now p) at n) (map plain steps.now) }
+    ensures { (p : List ℕ) → result ≡ list_all (digest_apart (input_for spec.now p) at n) (map plain steps.now) }
 {
     for step in steps {
         if !is_apart(range_for(step, spec), at, n) {
@@ -82,7 +82,7 @@ fn digest_is_apart(steps: &[Step], spec: &OpSpec, at: usize, n: usize) -> bool
 }
 
 fn digest_has_place(steps: &[Step], spec: &OpSpec, all: usize, n: usize) -> bool
-    ensures { (p : List ℕ) → all ≡ length p → result ≡ place_holds (asked spec.now p) (map plain steps.now) n spec.now.place }
+    ensures { (p : List ℕ) → all ≡ length p → result ≡ place_holds (input_for spec.now p) (map plain steps.now) n spec.now.place }
 {
     match spec.place {
         DigestPlace::Nowhere => false,
@@ -94,7 +94,7 @@ fn digest_has_place(steps: &[Step], spec: &OpSpec, all: usize, n: usize) -> bool
 }
 
 fn step_fits(step: &Step, steps: &[Step], spec: &OpSpec, all: usize) -> bool
-    ensures { (p : List ℕ) → all ≡ length p → result ≡ transform_fits (asked spec.now p) (map plain steps.now) (plain step.now) }
+    ensures { (p : List ℕ) → all ≡ length p → result ≡ transform_fits (input_for spec.now p) (map plain steps.now) (plain step.now) }
 {
     let range = range_for(step, spec);
     if !lies(range.off as usize, range.len as usize, all)
@@ -113,7 +113,7 @@ fn step_fits(step: &Step, steps: &[Step], spec: &OpSpec, all: usize) -> bool
 
 /// Whether the arguments fit each transform of a session, at a packet of `all` bytes.
 pub(crate) fn all_fit(steps: &[Step], spec: &OpSpec, all: usize) -> bool
-    ensures { (p : List ℕ) → all ≡ length p → result ≡ fits (asked spec.now p) (map plain steps.now) }
+    ensures { (p : List ℕ) → all ≡ length p → result ≡ fits (input_for spec.now p) (map plain steps.now) }
 {
     for step in steps {
         if !step_fits(step, steps, spec, all) {

@@ -5,7 +5,7 @@ ghost use Rattle.mbuf_chain.specs.Chain.{packet_of, shape_of};
 ghost use Rattle.crypto_op.specs.Op.{input_of, present, entry_of, IsFresh, IsDone};
 ghost use Rattle.sym_session.specs.First.{VerifiesFirst};
 ghost use Rattle.sym_session.specs.Plain.{plain};
-ghost use Rattle.sym_engine.specs.Working.{asked, target_of, with_target, work_of, outcome, with_answer, IsWritten};
+ghost use Rattle.sym_engine.specs.Working.{input_for, target_of, with_target, work_of, outcome, with_answer, IsWritten};
 
 use crate::checks::all_fit;
 use crate::work::step_work;
@@ -15,9 +15,9 @@ use sym_session::{Session, SessionTable, Step};
 
 // The transforms, one after another; false where a digest isn't the computed one.
 fn all_work<C>(steps: &[Step], op: &mut Op<C>, digest: &mut [u8; 64]) -> bool
-    requires fit { fits (asked op.old.spec (packet_of (target_of op.old))) (map plain steps.now) ≡ true }
+    requires fit { fits (input_for op.old.spec (packet_of (target_of op.old))) (map plain steps.now) ≡ true }
     requires first { VerifiesFirst (map plain steps.now) }
-    ensures works { (p : List ℕ) → all_worked (map plain steps.now) (asked op.old.spec p) (Some (work_of (target_of op.old) digest.old))
+    ensures works { (p : List ℕ) → all_worked (map plain steps.now) (input_for op.old.spec p) (Some (work_of (target_of op.old) digest.old))
         ≡ outcome result (work_of (target_of op.new) digest.new) }
     ensures kept { op.new ≡ with_target op.old (target_of op.new) }
     ensures written { IsWritten (target_of op.old) (target_of op.new) }

@@ -3,7 +3,7 @@ ghost use Rattle.std.specs.Prelude.{◌≡◌, ◌≤◌, ◌+◌, ◌%◌, ℕ,
 ghost use Rattle.crypto_model.specs.declared.plain.CipherAlg.TheVariants.{AesCbc};
 ghost use Rattle.crypto_model.specs.Chain.{laid_at};
 ghost use Rattle.crypto_model.specs.declared.plain.Dir.{Dir};
-ghost use Rattle.crypto_model.specs.Process.{Cipher, Auth, Aead, crypted, bytes_in, digest_at, with_digest, worked};
+ghost use Rattle.crypto_model.specs.Process.{Cipher, Auth, Aead, bytes_in, digest_at, with_digest, worked};
 ghost use Rattle.crypto_model.specs.Aes.{cipher};
 ghost use Rattle.crypto_model.specs.Gcm.{gcm_tag, gcm_text};
 ghost use Rattle.gcm_core.specs.Sealing.{IsSealed};
@@ -11,7 +11,7 @@ ghost use Rattle.gcm_core.specs.Opening.{IsAbsorbed, IsOpened};
 ghost use Rattle.hmac_core.specs.States.{HmacHolds};
 ghost use Rattle.mbuf_chain.specs.Chain.{packet_of, with_packet};
 ghost use Rattle.sym_session.specs.Plain.{plain};
-ghost use Rattle.sym_engine.specs.Working.{asked, target_of, with_target, work_of, place_ready, ready, outcome, IsWritten};
+ghost use Rattle.sym_engine.specs.Working.{ciphered, input_for, target_of, with_target, work_of, place_ready, ready, outcome, IsWritten};
 
 use crate::walk::{feed_range, work_on};
 use aes_modes::{CbcDec, CbcEnc, Ctr};
@@ -44,7 +44,7 @@ fn nonce(iv: &[u8]) -> [u8; 12]
 fn crypt(step: &CipherStep, iv: [u8; 16], chain: &mut Mbuf, range: Range)
     requires inside { range.off + range.len ≤ length (packet_of chain.old) }
     requires whole { step.now.alg ≡ AesCbc → range.len % 16 ≡ 0 }
-    ensures { chain.new ≡ with_packet chain.old (laid_at range.off (crypted step.now.alg step.now.dir step.now.key iv (bytes_in range (packet_of chain.old))) (packet_of chain.old)) }
+    ensures { chain.new ≡ ciphered step.now.alg step.now.dir step.now.key iv range chain.old }
 {
     match step.alg {
         CipherAlg::AesCtr => {
@@ -102,8 +102,8 @@ fn write_digest(place: DigestPlace, code: &[u8], chain: &mut Mbuf, digest: &mut 
 }
 
 fn cipher_work<C>(step: &CipherStep, op: &mut Op<C>)
-    requires { ready (asked op.old.spec (packet_of (target_of op.old))) (Cipher step.now.alg step.now.dir step.now.key) }
-    ensures { op.new ≡ with_target op.old (with_packet (target_of op.old) (laid_at op.old.spec.cipher.off (crypted step.now.alg step.now.dir step.now.key op.old.spec.iv (bytes_in op.old.spec.cipher (packet_of (target_of op.old)))) (packet_of (target_of op.old)))) }
+    requires { ready (input_for op.old.spec (packet_of (target_of op.old))) (Cipher step.now.alg step.now.dir step.now.key) }
+    ensures { op.new ≡ with_target op.old (ciphered step.now.alg step.now.dir step.now.key op.old.spec.iv op.old.spec.cipher (target_of op.old)) }
 {
     let iv = block(op.spec().iv.bytes());
     let range = op.spec().cipher;
@@ -111,8 +111,10 @@ fn cipher_work<C>(step: &CipherStep, op: &mut Op<C>)
 }
 
 fn auth_work<C>(step: &AuthStep, op: &mut Op<C>, digest: &mut [u8; 64]) -> bool
-    requires { ready (asked op.old.spec (packet_of (target_of op.old))) (Auth step.now.hash step.now.act step.now.key step.now.len) }
-    ensures works { (p : List ℕ) → worked (Auth step.now.hash step.now.act step.now.key step.now.len) (asked op.old.spec p) (work_of (target_of op.old) digest.old) ≡ outcome result (work_of (target_of op.new) digest.new) }
+    requires { ready (input_for op.old.spec (packet_of (target_of op.old))) (Auth step.now.hash step.now.act step.now.key step.now.len) }
+    ensures works { (p : List ℕ)
+        → worked (Auth step.now.hash step.now.act step.now.key step.now.len) (input_for op.old.spec p) (work_of (target_of op.old) digest.old)
+        ≡ outcome result (work_of (target_of op.new) digest.new) }
     ensures kept { op.new ≡ with_target op.old (target_of op.new) }
     ensures written { IsWritten (target_of op.old) (target_of op.new) }
     ensures unless { result ≡ false → target_of op.new ≡ target_of op.old }
@@ -163,8 +165,10 @@ fn verify_range<'a>(
 
 // Encrypts, and writes the tag of the ciphertext.
 fn seal<C>(step: &AeadStep, op: &mut Op<C>, digest: &mut [u8; 64])
-    requires { ready (asked op.old.spec (packet_of (target_of op.old))) (Aead Dir.Encrypt step.now.key step.now.tag_len step.now.aad_len) }
-    ensures works { (p : List ℕ) → worked (Aead Dir.Encrypt step.now.key step.now.tag_len step.now.aad_len) (asked op.old.spec p) (work_of (target_of op.old) digest.old) ≡ Some (work_of (target_of op.new) digest.new) }
+    requires { ready (input_for op.old.spec (packet_of (target_of op.old))) (Aead Dir.Encrypt step.now.key step.now.tag_len step.now.aad_len) }
+    ensures works { (p : List ℕ)
+        → worked (Aead Dir.Encrypt step.now.key step.now.tag_len step.now.aad_len) (input_for op.old.spec p) (work_of (target_of op.old) digest.old)
+        ≡ Some (work_of (target_of op.new) digest.new) }
     ensures kept { op.new ≡ with_target op.old (target_of op.new) }
     ensures written { IsWritten (target_of op.old) (target_of op.new) }
 {
@@ -177,8 +181,10 @@ fn seal<C>(step: &AeadStep, op: &mut Op<C>, digest: &mut [u8; 64])
 
 // Decrypts, where the tag is the ciphertext's.
 fn open<C>(step: &AeadStep, op: &mut Op<C>, digest: &[u8; 64]) -> bool
-    requires { ready (asked op.old.spec (packet_of (target_of op.old))) (Aead Dir.Decrypt step.now.key step.now.tag_len step.now.aad_len) }
-    ensures works { (p : List ℕ) → worked (Aead Dir.Decrypt step.now.key step.now.tag_len step.now.aad_len) (asked op.old.spec p) (work_of (target_of op.old) digest.now) ≡ outcome result (work_of (target_of op.new) digest.now) }
+    requires { ready (input_for op.old.spec (packet_of (target_of op.old))) (Aead Dir.Decrypt step.now.key step.now.tag_len step.now.aad_len) }
+    ensures works { (p : List ℕ)
+        → worked (Aead Dir.Decrypt step.now.key step.now.tag_len step.now.aad_len) (input_for op.old.spec p) (work_of (target_of op.old) digest.now)
+        ≡ outcome result (work_of (target_of op.new) digest.now) }
     ensures kept { op.new ≡ with_target op.old (target_of op.new) }
     ensures written { IsWritten (target_of op.old) (target_of op.new) }
     ensures unless { result ≡ false → target_of op.new ≡ target_of op.old }
@@ -197,8 +203,10 @@ fn open<C>(step: &AeadStep, op: &mut Op<C>, digest: &[u8; 64]) -> bool
 }
 
 fn aead_work<C>(step: &AeadStep, op: &mut Op<C>, digest: &mut [u8; 64]) -> bool
-    requires { ready (asked op.old.spec (packet_of (target_of op.old))) (Aead step.now.dir step.now.key step.now.tag_len step.now.aad_len) }
-    ensures works { (p : List ℕ) → worked (Aead step.now.dir step.now.key step.now.tag_len step.now.aad_len) (asked op.old.spec p) (work_of (target_of op.old) digest.old) ≡ outcome result (work_of (target_of op.new) digest.new) }
+    requires { ready (input_for op.old.spec (packet_of (target_of op.old))) (Aead step.now.dir step.now.key step.now.tag_len step.now.aad_len) }
+    ensures works { (p : List ℕ)
+        → worked (Aead step.now.dir step.now.key step.now.tag_len step.now.aad_len) (input_for op.old.spec p) (work_of (target_of op.old) digest.old)
+        ≡ outcome result (work_of (target_of op.new) digest.new) }
     ensures kept { op.new ≡ with_target op.old (target_of op.new) }
     ensures written { IsWritten (target_of op.old) (target_of op.new) }
     ensures unless { result ≡ false → target_of op.new ≡ target_of op.old }
@@ -214,8 +222,9 @@ fn aead_work<C>(step: &AeadStep, op: &mut Op<C>, digest: &mut [u8; 64]) -> bool
 
 /// One transform; false where a digest isn't the computed one.
 pub(crate) fn step_work<C>(step: &Step, op: &mut Op<C>, digest: &mut [u8; 64]) -> bool
-    requires { ready (asked op.old.spec (packet_of (target_of op.old))) (plain step.now) }
-    ensures works { (p : List ℕ) → worked (plain step.now) (asked op.old.spec p) (work_of (target_of op.old) digest.old) ≡ outcome result (work_of (target_of op.new) digest.new) }
+    requires { ready (input_for op.old.spec (packet_of (target_of op.old))) (plain step.now) }
+    ensures works { (p : List ℕ)
+        → worked (plain step.now) (input_for op.old.spec p) (work_of (target_of op.old) digest.old) ≡ outcome result (work_of (target_of op.new) digest.new) }
     ensures kept { op.new ≡ with_target op.old (target_of op.new) }
     ensures written { IsWritten (target_of op.old) (target_of op.new) }
     ensures unless { result ≡ false → target_of op.new ≡ target_of op.old }

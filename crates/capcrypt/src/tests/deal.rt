@@ -2,7 +2,7 @@
 ghost use Rattle.std.specs.Prelude.{◌≡◌, ◌≤◌, ◌<◌, [], length, IfOk, All};
 ghost use Rattle.sym_engine.specs.Driver.{held_of};
 ghost use Rattle.dev_core.specs.Stall.{inner_of};
-ghost use Rattle.dev_core.specs.Log.{inner_of as logged_of};
+ghost use Rattle.dev_core.specs.Log.{logged_of};
 
 use super::crypt::{BY_RULE, SEALS, head_of, usual_packets};
 use super::devices::packets;

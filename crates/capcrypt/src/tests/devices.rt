@@ -3,7 +3,7 @@ ghost use Rattle.std.specs.Prelude.{◌≡◌, [], length, IfOk, All};
 ghost use Rattle.sym_engine.specs.Driver.{held_of};
 ghost use Rattle.crypto_op.specs.Op.{IsFresh};
 ghost use Rattle.dev_core.specs.Stall.{inner_of};
-ghost use Rattle.dev_core.specs.Log.{inner_of as logged_of};
+ghost use Rattle.dev_core.specs.Log.{logged_of};
 
 use super::crypt::{BY_RULE, CRYPT, SEALS, head_of};
 use super::{Ended, HEAD_OF_16, HEAD_OF_60, HEADER, NOTHING, QUICK, RAISED, joined, run_in_memory};

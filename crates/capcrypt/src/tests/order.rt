@@ -9,7 +9,8 @@ use super::{HEAD_OF_60, SEVENS_0, SEVENS_1};
 use capture_io::{Header, MemSink, MemSource, ReadStop};
 use crypto_op::{Card, Op, OpBurst};
 use dev_core::{Driver, Stats};
-use packet_flow::{FlowEnd, transfer};
+use mbuf_chain::FreshSegs;
+use packet_flow::{FlowEnd, Sizes, transfer};
 use packet_plan::ReadyPlan;
 use session_file::parse;
 use std::collections::VecDeque;
@@ -157,7 +158,21 @@ fn answers_that_come_newest_first_are_written_in_order(rt: HostRuntime) -> Resul
     }
     let mut src = MemSource::new(capture, 1000, Vec::new(alloc));
     let mut out = MemSink::new(alloc, 1000, Vec::new(alloc))?;
-    let flow = transfer(alloc, &plan, 2, &MICROSECONDS, &mut src, &mut out, &mut dev);
+    let mut store = FreshSegs::new(alloc);
+    let sizes = Sizes {
+        window: 16,
+        burst: 2,
+    };
+    let flow = transfer(
+        alloc,
+        &plan,
+        sizes,
+        &MICROSECONDS,
+        &mut src,
+        &mut store,
+        &mut out,
+        &mut dev,
+    );
     assert_eq!(rt; flow.end, FlowEnd::Stopped(ReadStop::End));
     let mut expected = Vec::new(alloc);
     for part in [&HEAD_OF_60[..], &SEVENS_0, &HEAD_OF_60, &SEVENS_1] {

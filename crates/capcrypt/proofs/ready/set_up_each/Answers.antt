@@ -2,7 +2,7 @@ use Rattle.std.proofs.Common.{◌≡◌, ℕ, ◌+◌, ◌<◌, List, length, ge
 use Rattle.std.proofs.lemmas.List.{length-set, drop-set-lt}
 use Rattle.sched_modes.proofs.Held.{same_at, up_to}
 use Rattle.capcrypt.specs.Devices.{DeviceNow, device_now}
-use Rattle.capcrypt.specs.Served.{IsReady}
+use Rattle.capcrypt.specs.Served.{WasSetUp}
 use Rattle.capcrypt.proofs.Lists.{further_behind, same_behind}
 use Rattle.capcrypt.proofs.ready.set_up_each.Goals as goal
 
@@ -24,9 +24,9 @@ loop-i-preserved g c =
     let inside : i < length now = omega (arith, c.loop-i-test.true, c.requires.enough, c.loop-i.invariant.count) in
     let made = c.in_ok-set_up.ensures.ready plan c.in_ok-sessions.ensures in
     record {
-      ready = up_to (λ a b. IsReady plan (f a) (f b)) old now i e inside c.loop-i.invariant.ready (λ x.
+      ready = up_to (λ a b. WasSetUp plan (f a) (f b)) old now i e inside c.loop-i.invariant.ready (λ x.
           let was : get_or old i x ≡ d = sym (same_behind i now old c.loop-i.invariant.others x) ∙ same_at now i d x inside c.index_mut.ensures.value in
-          subst (λ y. IsReady plan (f y) (f e)) (sym was) made);
+          subst (λ y. WasSetUp plan (f y) (f e)) (sym was) made);
       others = drop-set-lt (i + 1) now i e (omega arith) ∙ further_behind i (i + 1) now old (omega arith) c.loop-i.invariant.others;
       count = length-set now i e ∙ c.loop-i.invariant.count;
     }

@@ -1,10 +1,9 @@
 use Rattle.std.proofs.Common.{◌≡◌, ◌≤◌, map, Some, Ok, ap, subst, ◌∙◌, arith}
 use Rattle.std.specs.Prelude.{string_bytes}
-use Rattle.command_words.specs.Asked.{asked}
-use Rattle.command_words.specs.Gives.{IsLegalIfCrypt, command_view}
+use Rattle.command_words.specs.Asked.{wanted}
+use Rattle.command_words.specs.Gives.{IsLegalIfCrypt, RunsOnOneThread, command_view}
 use Rattle.command_words.specs.declared.command.Command.{Command}
 use Rattle.sched_core.specs.declared.text.SchedText.{SchedText}
-use Rattle.capcrypt.specs.Start.{IsLegal}
 use Rattle.capcrypt.proofs.Asked.{few_workers, least_one}
 use Rattle.capcrypt.proofs.start.begin.Goals as goal
 
@@ -19,6 +18,6 @@ returns-in_ok-plan-in-Ok-Crypt-2-clause-legal g c some =
     let few = few_workers (map string_bytes c.args.words.now) c.args.devices crypt.scheduler crypt.sessions.now crypt.burst said in
     record {
       burst = legal.burst;
-      devices = (omega (arith, legal.schedulable.least, least_one crypt.scheduler.mode), few);
-      legal = λ text is. subst IsLegal (same_text crypt.scheduler text is) (record { schedulable = legal.schedulable; mode = legal.mode });
+      devices = (omega (arith, legal.scheduler.schedulable.least, least_one crypt.scheduler.mode), few);
+      legal = λ text is. subst RunsOnOneThread (same_text crypt.scheduler text is) legal.scheduler;
     }

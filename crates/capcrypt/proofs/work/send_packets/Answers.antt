@@ -1,7 +1,7 @@
 use Rattle.std.proofs.Common.{◌≡◌, List, ℕ, sym, subst}
 use Rattle.capture_io.specs.Capture.{Holds}
 use Rattle.capcrypt.specs.Start.{Begins, settings_of}
-use Rattle.capcrypt.specs.Ran.{HasWritten}
+use Rattle.capcrypt.specs.Ran.{HasAppended}
 use Rattle.capcrypt.proofs.Jobs.{flushed, flushed_decided, flushed_stalled}
 use Rattle.capcrypt.proofs.work.send_packets.Goals as goal
 
@@ -13,7 +13,7 @@ returns-clause-wrote g c s_told k_told rs rest reads =
     let old = g.K.Sink.written c.args.out.now in
     let new = g.K.Sink.written c.write_packets-outcome.new.out in
     let wrote = flushed s h rs rest o c.flushed.result old new _ (c.write_packets-outcome.ensures.wrote s_told k_told rs rest reads) c.flushed.ensures.outcome in
-    subst (λ (l : List ℕ). HasWritten (Begins s) (Holds h rs rest) c.flushed.result old l) (sym (c.flushed.ensures.same k_told)) wrote
+    subst (λ (l : List ℕ). HasAppended (Begins s) (Holds h rs rest) c.flushed.result old l) (sym (c.flushed.ensures.same k_told)) wrote
 
 pub returns-clause-driven : goal.returns-clause-driven
 returns-clause-driven g c s_told k_told rs rest reads =

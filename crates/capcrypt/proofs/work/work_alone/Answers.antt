@@ -5,7 +5,7 @@ use Rattle.packet_flow.specs.Entries.{entries_from}
 use Rattle.capcrypt.specs.Dealing.{Alone, Dealing, dealing_of, workers_of}
 use Rattle.capcrypt.specs.Devices.{DeviceNow, HasStalledOut, HaveStalledOut, device_now}
 use Rattle.capcrypt.specs.Ran.{IsDriven, Job}
-use Rattle.capcrypt.specs.Served.{IsReady}
+use Rattle.capcrypt.specs.Served.{WasSetUp}
 use Rattle.capcrypt.specs.Start.{Begins, settings_of}
 use Rattle.capcrypt.proofs.Alone.{alone_served, alone_stalled, alone_whole, never_idle, set_first}
 use Rattle.capcrypt.proofs.Jobs.{served_by, wanting_by}
@@ -55,7 +55,7 @@ returns-clause-job g c s_told k_told rs rest reads =
     let there : 0 < length devs = omega (arith, c.requires.can.devices.0, c.requires.can.devices.1) in
     let same : again ≡ mid = c.index_mut-2.ensures.value ∙ get_or-set_same devs 0 mid again there in
     let made = c.in-Ok-set_up.ensures.ready task.plan c.in-Ok.ensures in
-    let ready = subst (λ y. IsReady task.plan (f y) (f mid)) c.index_mut.ensures.value made in
+    let ready = subst (λ y. WasSetUp task.plan (f y) (f mid)) c.index_mut.ensures.value made in
     let driven = sent.driven s_told k_told rs rest reads in
     let ops = entries_from task.plan 0 rs in
     let drv = subst (λ y. IsDriven task.burst ops e driven.0 (f d).enqueued (f y).log (f d).log) same driven.2 in

@@ -1,6 +1,7 @@
 use denote.Param.Send.{sendable}
 use Rattle.std.proofs.Crossing.{crosses}
-use Rattle.flight_table.proofs.Crosses.{op_send, note_send}
+use Rattle.crypto_op.proofs.Crosses.{op_send}
+use Rattle.flight_table.proofs.Crosses.{note_send}
 use Rattle.flight_table.proofs.threads.operation.Goals as goal
 
 pub moved-requires-send-X : goal.moved-requires-send-X

@@ -1,8 +1,9 @@
-use Rattle.std.proofs.Common.{◌≡◌, ◌++◌, length, sym, ap, ◌∙◌, arith, length-append}
+use Rattle.std.proofs.Common.{◌≡◌, [], ◌∷◌, ◌++◌, length, sym, ap, ◌∙◌, arith, length-append}
 use Rattle.std.specs.Prelude.{map}
 use Rattle.std.specs.Map.Iter.{deref}
 use Rattle.std.proofs.lemmas.Map.Iter.{rest_so_far}
-use Rattle.mbuf_chain.proofs.Kept.{most_bytes}
+use Rattle.std.proofs.lemmas.List.{map-append}
+use Rattle.mbuf_chain.proofs.Kept.{most_bytes, one_more}
 use Rattle.mbuf_chain.proofs.mbuf.bytes_in.Goals as goal
 
 pub overflow_add-all : goal.overflow_add-all
@@ -19,3 +20,8 @@ overflow_add-all c =
       c.len-all.ensures.whole,
       c.len-all.ensures.value,
     )
+
+pub loop-seg-preserved : goal.loop-seg-preserved
+loop-seg-preserved c =
+    rw (map-append deref c.loop-seg.yielded (c.in-Some.seg ∷ []))
+    (one_more (map deref c.loop-seg.yielded) c.loop-seg.all c.in-Some.seg.now c.len-all.result c.loop-seg.invariant.0 c.loop-seg.invariant.1 c.len-all.ensures.value c.len-all.ensures.whole)

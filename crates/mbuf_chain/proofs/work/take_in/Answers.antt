@@ -2,7 +2,7 @@ use Rattle.std.proofs.Common.{rules, ◌≡◌, ℕ, ◌+◌, ◌*◌, ◌/◌, 
 use Rattle.std.proofs.Math.Nat.{div-mul-le_self, mul-mod_left}
 use Rattle.seg_list.specs.Buffer.{Buffer}
 use Rattle.mbuf_chain.specs.Chain.{packet_of}
-use Rattle.mbuf_chain.specs.Cursors.{At, moved}
+use Rattle.mbuf_chain.specs.Cursors.{At}
 use Rattle.mbuf_chain.specs.Piece.{piece_len}
 use Rattle.mbuf_chain.proofs.Pieces.{length-piece_laid, piece_laid-packet, piece_len-laid, piece_len-less}
 use Rattle.mbuf_chain.proofs.work.take_in.Goals as goal

@@ -13,32 +13,32 @@ use Rattle.packet_flow.proofs.filling.advance.Goals as goal
 pub returns-in_default-read-clause-underway : goal.returns-in_default-read-clause-underway
 returns-in_default-read-clause-underway g c b o big left wrote u =
     let p = c.args.passage.now in
-    let read = c.read-read in
+    let read = c.read in
     let none = c.take.ensures.none c.in_default.is in
-    let q : Passage = record p { window = read.new.self; store = read.new.store } in
+    let q : Passage = record p { window = read.new.self } in
     read_on c.args.plan.now b g.S.Source.tells g.K.Sink.tells p q o c.take.new.self c.args.header.now.big (g.S.Source.left c.args.src.now) (g.S.Source.left read.new.src) (g.K.Sink.written c.args.out.now) read.result
     big left wrote u none.0 (none_stopped p.window.waiting none.1 c.requires.some) refl read.ensures.next read.ensures.stop read.ensures.read
     (λ stop is. absurd (c.in_default-read.not-Some stop is)) read.ensures.range
 
 pub returns-in-Fault-clause-ends : goal.returns-in-Fault-clause-ends
 returns-in-Fault-clause-ends g c b o big left wrote u =
-    ended_early c.args.plan.now b g.S.Source.tells g.K.Sink.tells c.args.passage.now o (Stopped read_stop.Fault) (g.S.Source.left c.read-read.new.src) (g.K.Sink.written c.args.out.now)
+    ended_early c.args.plan.now b g.S.Source.tells g.K.Sink.tells c.args.passage.now o (Stopped read_stop.Fault) (g.S.Source.left c.read.new.src) (g.K.Sink.written c.args.out.now)
     (λ w. w) (λ no. cc) wrote u
 
 pub returns-in-OutOfMemory-clause-ends : goal.returns-in-OutOfMemory-clause-ends
 returns-in-OutOfMemory-clause-ends g c b o big left wrote u =
-    ended_early c.args.plan.now b g.S.Source.tells g.K.Sink.tells c.args.passage.now o OutOfMemory (g.S.Source.left c.read-read.new.src) (g.K.Sink.written c.args.out.now)
+    ended_early c.args.plan.now b g.S.Source.tells g.K.Sink.tells c.args.passage.now o OutOfMemory (g.S.Source.left c.read.new.src) (g.K.Sink.written c.args.out.now)
     (λ w. w) (λ no. cc) wrote u
 
 pub returns-in_default-stop : goal.returns-in_default-stop
 returns-in_default-stop g c =
     let p = c.args.passage.now in
-    let read = c.read-read in
+    let read = c.read in
     let stopped = c.in-Some-read.is in
     let none = c.take.ensures.none c.in_default.is in
     let goes = none_stopped p.window.waiting none.1 c.requires.some in
     let here = λ (stop : ReadStop) (is : read.result ≡ Some stop). (let both : Some c.in-Some-read.stop ≡ Some stop = sym stopped ∙ is in let same : c.in-Some-read.stop ≡ stop = cc in same) in
-    let q : Passage = record p { window = read.new.self; store = read.new.store } in
+    let q : Passage = record p { window = read.new.self } in
     record {
       underway = λ b o big left wrote u.
           read_on c.args.plan.now b g.S.Source.tells g.K.Sink.tells p q o c.take.new.self c.args.header.now.big (g.S.Source.left c.args.src.now) (g.S.Source.left read.new.src) (g.K.Sink.written c.args.out.now) read.result

@@ -14,7 +14,7 @@ pub returns-in_default-clause-ends : goal.returns-in_default-clause-ends
 returns-in_default-clause-ends g c = (
   [],
   refl,
-  ends_unbegun c.args.plan.now (before c.args.header.now.big (g.S.Source.left c.args.src.now) (g.K.Sink.written c.args.out.now) (g.D.Driver.log c.args.dev.now) c.args.size)
+  ends_unbegun c.args.plan.now (before c.args.header.now.big (g.S.Source.left c.args.src.now) (g.K.Sink.written c.args.out.now) (g.D.Driver.log c.args.dev.now) c.args.sizes.burst)
       g.S.Source.tells g.K.Sink.tells
       (outside (g.S.Source.left c.args.src.now) (g.K.Sink.written c.args.out.now) (g.D.Driver.held c.args.dev.now) (g.D.Driver.stats c.args.dev.now) (g.D.Driver.log c.args.dev.now) [])
       c.new-in_default.result refl (record { enqueued_is = omega (arith, ap (λ (s : Stats). s.enqueued) c.requires.stats); log_is = c.requires.log }) refl c.new-in_default.ensures,
@@ -26,7 +26,7 @@ loop-moved-init g c = record {
     [],
     record { drained = tt; rest = ap (λ (x : Burst (Op Card)). map log_entry x.ops) c.in-Ok.ensures.burst },
     refl,
-    new_underway c.args.plan.now _ g.S.Source.tells g.K.Sink.tells c.args.size c.in-Ok.passage _ c.requires.size.0 refl refl c.in-Ok.ensures
+    new_underway c.args.plan.now _ g.S.Source.tells g.K.Sink.tells c.args.sizes.burst c.in-Ok.passage _ c.requires.burst.0 refl refl c.in-Ok.ensures
         (record { enqueued_is = omega (arith, ap (λ (s : Stats). s.enqueued) c.requires.stats); log_is = c.requires.log }) refl refl c.requires.idle,
   );
   sessions = refl;
@@ -51,7 +51,7 @@ step-requires-clause-underway g c = let u = c.loop-moved.invariant.underway in (
 pub returns-in-Err-clause-ends : goal.returns-in-Err-clause-ends
 returns-in-Err-clause-ends g c =
     let u = c.loop-moved.invariant.underway in
-    c.in-Err.ensures.ends (before c.args.header.now.big (g.S.Source.left c.args.src.now) (g.K.Sink.written c.args.out.now) (g.D.Driver.log c.args.dev.now) c.args.size)
+    c.in-Err.ensures.ends (before c.args.header.now.big (g.S.Source.left c.args.src.now) (g.K.Sink.written c.args.out.now) (g.D.Driver.log c.args.dev.now) c.args.sizes.burst)
     u.0 c.args.dev.now refl u.1 u.2 u.3
 
 pub returns-in-Err-clause-stalls : goal.returns-in-Err-clause-stalls
@@ -95,7 +95,7 @@ overflow_mul-stats g c =
 
 pub returns-then-stalled-stats-clause-ends : goal.returns-then-stalled-stats-clause-ends
 returns-then-stalled-stats-clause-ends g c =
-    let b = before c.args.header.now.big (g.S.Source.left c.args.src.now) (g.K.Sink.written c.args.out.now) (g.D.Driver.log c.args.dev.now) c.args.size in
+    let b = before c.args.header.now.big (g.S.Source.left c.args.src.now) (g.K.Sink.written c.args.out.now) (g.D.Driver.log c.args.dev.now) c.args.sizes.burst in
     let u = c.loop-moved.invariant.underway in
     let now = c.in-Ok-step.ensures.underway b u.0 c.args.dev.now refl u.1 u.2 u.3 in (
       now.0,

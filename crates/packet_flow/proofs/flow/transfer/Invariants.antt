@@ -9,7 +9,7 @@ use Rattle.packet_flow.proofs.flow.transfer.Given as goal
 abbrev pub invariant-loop-moved : goal.invariant-loop-moved
 invariant-loop-moved g l = record {
   underway : (past : List Call) × IsAt past l.passage.burst.ops × Ran g.D.Driver.does l.fn.dev past l.dev
-      × IsUnderway l.plan (before l.header.big (g.S.Source.left l.fn.src) (g.K.Sink.written l.fn.out) (g.D.Driver.log l.fn.dev) l.size) g.S.Source.tells g.K.Sink.tells l.passage
+      × IsUnderway l.plan (before l.header.big (g.S.Source.left l.fn.src) (g.K.Sink.written l.fn.out) (g.D.Driver.log l.fn.dev) l.sizes.burst) g.S.Source.tells g.K.Sink.tells l.passage
       (outside (g.S.Source.left l.src) (g.K.Sink.written l.out) (g.D.Driver.held l.dev) (g.D.Driver.stats l.dev) (g.D.Driver.log l.dev) past);
   sessions : g.D.Driver.sessions l.dev ≡ g.D.Driver.sessions l.fn.dev;
   follows : g.D.Driver.follows l.fn.dev l.dev;

@@ -1,14 +1,14 @@
-use Rattle.std.proofs.Common.{◌≡◌, ◌≤◌, ◌<◌, ◌+◌, ◌*◌, ◌^◌, ◌++◌, List, ℕ, length}
+use Rattle.std.proofs.Common.{◌≡◌, ◌≤◌, ◌<◌, ◌+◌, ◌^◌, ◌++◌, List, ℕ, length}
 use Rattle.std.specs.List.{All}
 use Rattle.capture_io.specs.Capture.{Rec}
-use Rattle.capture_io.specs.Limits.{IsSmall}
+use Rattle.capture_io.specs.Limits.{IsPlaced, IsSmall}
 use Rattle.packet_flow.specs.Reads.{HasRead}
 use Rattle.packet_flow.specs.Window.{views}
 use Rattle.packet_flow.proofs.window.read_behind.Given as goal
 
 abbrev pub invariant-loop-n : goal.invariant-loop-n
 invariant-loop-n g l = record {
-  place : l.place.at ≤ 24 + 262160 * l.place.records;
+  place : IsPlaced l.place;
   range : l.place.records < 2 ^ 32;
   small : All IsSmall l.waiting.items;
   grown : (more : List Rec) × (views l.waiting.items ≡ views l.fn.waiting.items ++ more) × (length more ≡ l._n);

@@ -1,7 +1,7 @@
 use Rattle.std.proofs.Common.{◌≡◌, ◌+◌, ◌++◌, length, map, ap, ◌∙◌, arith, Some}
 use Rattle.crypto_op.specs.Op.{entry_of}
 use Rattle.sched_core.specs.Ring.{Ring, place}
-use Rattle.sched_core.specs.Pending.{IsSound}
+use Rattle.sched_core.specs.Pending.{IsRingSound}
 use Rattle.sched_core.proofs.Settling.{settle_step, none_behind, done_settled, done_first, length-settled_at}
 use Rattle.sched_core.proofs.settle.settle_all.Goals as goal
 

@@ -1,5 +1,5 @@
 use Rattle.std.proofs.Common.{◌≡◌, ◌∙◌, ◌+◌, sym, arith, length, rules, refl, zero-add, ap}
-use Rattle.sched_core.specs.Text.{IsLegal, fields_of, read_fields}
+use Rattle.sched_core.specs.Text.{IsLegalSoFar, fields_of, read_fields}
 use Rattle.sched_core.proofs.Fields.{some_is, at_first, at_none, at_some, begun, ended, some_rest, whole}
 use Rattle.sched_core.proofs.text.read.Goals as goal
 
@@ -22,9 +22,9 @@ loop-next-preserved c =
     let lengths = at_some _ _ _ _ c.in-Some-more.is c.first_field.ensures.lengths in
     record {
       read = sym (at_first _ _ _ _ _ _ _ fields (sym c.with_text.ensures.said ∙ c.in-Some.is)) ∙ c.loop-next.invariant.read;
-      legal = some_is IsLegal c.with_text.result _ c.in-Some.is (c.with_text.ensures.legal c.loop-next.invariant.legal);
+      legal = some_is IsLegalSoFar c.with_text.result _ c.in-Some.is (c.with_text.ensures.legal c.loop-next.invariant.legal);
       at = omega (arith, lengths, c.loop-next.invariant.at);
     }
 
 pub finish-requires : goal.finish-requires
-finish-requires c = some_is IsLegal c.with_text.result _ c.in-Some.is (c.with_text.ensures.legal c.loop-next.invariant.legal)
+finish-requires c = some_is IsLegalSoFar c.with_text.result _ c.in-Some.is (c.with_text.ensures.legal c.loop-next.invariant.legal)

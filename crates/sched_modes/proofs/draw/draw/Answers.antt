@@ -7,7 +7,7 @@ use Rattle.dev_core.specs.Burst.{added}
 use Rattle.sched_core.specs.declared.ring.Slot.{Slot}
 use Rattle.sched_core.specs.declared.ring.Slot.TheVariants.{Settled}
 use Rattle.sched_core.specs.Ring.{Ring}
-use Rattle.sched_core.specs.Pending.{pending}
+use Rattle.sched_core.specs.Pending.{pending_from}
 use Rattle.sched_modes.specs.Workers.{Taken, pending_with, together}
 use Rattle.sched_modes.proofs.Ahead.{taken_done, taken_pending, taken_sound}
 use Rattle.sched_modes.proofs.draw.draw.Goals as goal
@@ -21,7 +21,7 @@ pub returns-in-Some-clause-pending : goal.returns-in-Some-clause-pending
 returns-in-Some-clause-pending g c =
     let es = together g.D.Driver c.args.workers c.collect.new.devs.items in
     let ops = added c.args.out.now c.give_front.new.out in
-    let now = map entry_of ops ++ pending c.give_front.new.ring.first c.give_front.new.ring.slots es in
+    let now = map entry_of ops ++ pending_from c.give_front.new.ring.first c.give_front.new.ring.slots es in
     let e : pending_with g.D.Driver c.args.ring.now c.args.workers c.args.devs.now.items ≡ now = rw c.in-Some.is (sym c.collect.ensures.pending ∙ taken_pending c.collect.new.ring c.give_front.new.ring ops es c.give_front.ensures.taken) in
     rw e (IsPermutation-refl now)
 

@@ -7,7 +7,7 @@ use Rattle.std.proofs.lemmas.List.Sorted.{IsPermutation-refl}
 use Rattle.crypto_op.specs.Op.{data_len_of, entry_of}
 use Rattle.dev_core.specs.Burst.{front, front_log, lens, log_entry}
 use Rattle.dev_core.specs.declared.stats.Stats.{Stats}
-use Rattle.sched_core.specs.Pending.{numbered, opened, pending_of, IsSound, SlotDone}
+use Rattle.sched_core.specs.Pending.{numbered, opened, pending_of, IsRingSound, SlotDone}
 use Rattle.sched_core.specs.Ring.{number}
 use Rattle.sched_core.specs.Logged.{renumbered}
 use Rattle.sched_core.proofs.PendingMore.{holds_more, pending_more}
@@ -25,7 +25,7 @@ returns-in-Some-clause-in_order g c o =
     let r = c.in-Some.ring in
     let n = c.enqueue_through.result in
     let ops = take n c.args.burst.now.ops in
-    let sound : IsSound (Some r) (together g.D.Driver c.args.workers devs) = rw c.in-Some.is at c.requires.sound in
+    let sound : IsRingSound (Some r) (together g.D.Driver c.args.workers devs) = rw c.in-Some.is at c.requires.sound in
     let t : c.args.turn < length devs = omega (arith, c.args.devs.now.ok.0) in
     let p = held_set held devs c.args.workers c.args.turn c.index_mut-worker.result.now c.enqueue_through.new.worker (numbered (r.first + length r.slots) (map entry_of ops)) c.requires.turn t c.index_mut-worker.ensures.value c.enqueue_through.ensures.held in
     let len : length r.slots + length ops ≤ 2 ^ 64 = omega (arith, length-take n c.args.burst.now.ops, c.enqueue_through.ensures.offered, sound.1, sound.2) in
@@ -44,7 +44,7 @@ returns-in-Some-clause-sound g c =
     let r = c.in-Some.ring in
     let n = c.enqueue_through.result in
     let ops = take n c.args.burst.now.ops in
-    let sound : IsSound (Some r) (together g.D.Driver c.args.workers devs) = rw c.in-Some.is at c.requires.sound in
+    let sound : IsRingSound (Some r) (together g.D.Driver c.args.workers devs) = rw c.in-Some.is at c.requires.sound in
     let t : c.args.turn < length devs = omega (arith, c.args.devs.now.ok.0) in
     let p = held_set held devs c.args.workers c.args.turn c.index_mut-worker.result.now c.enqueue_through.new.worker (numbered (r.first + length r.slots) (map entry_of ops)) c.requires.turn t c.index_mut-worker.ensures.value c.enqueue_through.ensures.held in
     rw c.enqueue_through.ensures.ring (

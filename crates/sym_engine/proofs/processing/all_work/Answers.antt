@@ -6,7 +6,7 @@ use Rattle.crypto_op.specs.Op.{with_chain}
 use Rattle.crypto_op.specs.declared.op.Op.{Op}
 use Rattle.crypto_op.specs.declared.spec.OpSpec.{OpSpec}
 use Rattle.sym_session.specs.Plain.{plain}
-use Rattle.sym_engine.specs.Working.{asked, work_of, ready}
+use Rattle.sym_engine.specs.Working.{input_for, work_of, ready}
 use Rattle.sym_engine.proofs.EachItem.{one_of_all}
 use Rattle.sym_engine.proofs.Written.{written_none, written_twice}
 use Rattle.sym_engine.proofs.Ordered.{all_none, step_on, only_first, made_ready}
@@ -23,9 +23,9 @@ step_work-requires g c =
     let step = c.step-item.result in
     let now = packet_of c.loop-step.op.chain in
     let spec : c.loop-step.op.spec ≡ op.spec = ap (λ (o : Op g.row.C.Denot). o.spec) c.loop-step.invariant.kept in
-    subst (λ (s : OpSpec). ready (asked s now) (plain step)) (sym spec)
+    subst (λ (s : OpSpec). ready (input_for s now) (plain step)) (sym spec)
     (made_ready op.spec packet now all (plain step) c.loop-step.invariant.written.1
-    (one_of_all (transform_fits (asked op.spec packet) all) plain c.args.steps.now c.loop-step.step-index step c.loop-step-test.true c.step-item.is c.requires.fit))
+    (one_of_all (transform_fits (input_for op.spec packet) all) plain c.args.steps.now c.loop-step.step-index step c.loop-step-test.true c.step-item.is c.requires.fit))
 
 pub returns-then-not-step_work : goal.returns-then-not-step_work
 returns-then-not-step_work g c =
@@ -35,13 +35,13 @@ returns-then-not-step_work g c =
     let w = work_of c.loop-step.op.chain c.loop-step.digest in
     let spec : c.loop-step.op.spec ≡ op.spec = ap (λ (o : Op g.row.C.Denot). o.spec) i.kept in
     let does = c.if-not-step_work.ensures in
-    let works : (p : List ℕ) → worked (plain step) (asked op.spec p) w ≡ None = λ p. ap (λ (s : OpSpec). worked (plain step) (asked s p) w) (sym spec) ∙ does.works p in
-    let first = only_first c.args.steps.now c.loop-step.step-index step (asked op.spec []) w c.requires.first c.loop-step-test.true c.step-item.is (works []) in
+    let works : (p : List ℕ) → worked (plain step) (input_for op.spec p) w ≡ None = λ p. ap (λ (s : OpSpec). worked (plain step) (input_for s p) w) (sym spec) ∙ does.works p in
+    let first = only_first c.args.steps.now c.loop-step.step-index step (input_for op.spec []) w c.requires.first c.loop-step-test.true c.step-item.is (works []) in
     let same = does.unless refl ∙ i.untouched first in
     record {
       works = λ p. i.works p
-          ∙ step_on c.args.steps.now c.loop-step.step-index step (asked op.spec p) w None c.loop-step-test.true c.step-item.is (works p)
-          ∙ all_none (map plain (drop (c.loop-step.step-index + 1) c.args.steps.now)) (asked op.spec p);
+          ∙ step_on c.args.steps.now c.loop-step.step-index step (input_for op.spec p) w None c.loop-step-test.true c.step-item.is (works p)
+          ∙ all_none (map plain (drop (c.loop-step.step-index + 1) c.args.steps.now)) (input_for op.spec p);
       kept = does.kept ∙ ap (λ (o : Op g.row.C.Denot). with_chain o c.step_work.new.op.chain) i.kept;
       written = written_twice op.chain c.loop-step.op.chain c.step_work.new.op.chain i.written does.written;
       unless = λ e. same;
@@ -58,8 +58,8 @@ loop-step-preserved g c =
     let does = c.if-not-step_work.ensures in
     record {
       works = λ p. i.works p
-          ∙ step_on c.args.steps.now c.loop-step.step-index step (asked op.spec p) w (Some after) c.loop-step-test.true c.step-item.is
-          (ap (λ (s : OpSpec). worked (plain step) (asked s p) w) (sym spec) ∙ does.works p);
+          ∙ step_on c.args.steps.now c.loop-step.step-index step (input_for op.spec p) w (Some after) c.loop-step-test.true c.step-item.is
+          (ap (λ (s : OpSpec). worked (plain step) (input_for s p) w) (sym spec) ∙ does.works p);
       kept = does.kept ∙ ap (λ (o : Op g.row.C.Denot). with_chain o c.step_work.new.op.chain) i.kept;
       written = written_twice op.chain c.loop-step.op.chain c.step_work.new.op.chain i.written does.written;
       untouched = λ e. absurd (omega (arith, e));

@@ -8,7 +8,7 @@ use Rattle.crypto_op.specs.declared.op.Op.{Op}
 use Rattle.crypto_op.specs.declared.spec.OpSpec.{OpSpec}
 use Rattle.sym_session.specs.First.{VerifiesFirst}
 use Rattle.sym_session.specs.Plain.{plain}
-use Rattle.sym_engine.specs.Working.{asked, work_of}
+use Rattle.sym_engine.specs.Working.{input_for, work_of}
 use Rattle.sym_engine.proofs.Answered.{unfit, worked_off, refused_with, done_with, fit_as, work_as}
 use Rattle.sym_engine.proofs.processing.answer_under.Goals as goal
 
@@ -27,7 +27,7 @@ pub all_work-requires-clause-fit : goal.all_work-requires-clause-fit
 all_work-requires-clause-fit g c =
     let packet = packet_of c.args.op.now.chain in
     let long : c.len.result ≡ length packet = c.len.ensures.value ∙ ap (λ m. length (packet_of m)) c.chain.ensures in
-    sym (c.all_fit.ensures packet long ∙ ap (λ (s : OpSpec). fits (asked s packet) (map plain c.steps-steps.result.now)) c.spec.ensures) ∙ c.if-not-all_fit.false
+    sym (c.all_fit.ensures packet long ∙ ap (λ (s : OpSpec). fits (input_for s packet) (map plain c.steps-steps.result.now)) c.spec.ensures) ∙ c.if-not-all_fit.false
 
 pub all_work-requires-clause-first : goal.all_work-requires-clause-first
 all_work-requires-clause-first g c = subst VerifiesFirst (sym c.steps-steps.ensures.transforms) c.steps-steps.ensures.first

@@ -1,5 +1,5 @@
 use Rattle.std.proofs.Common.{rules, arith, ap, sym, ◌≡◌, ◌∙◌, ◌∷◌, [], ◌++◌, length}
-use Rattle.flight_table.specs.Note.{drawn_of, newest, owner_of, note_of, entry_of}
+use Rattle.flight_table.specs.Note.{drawn_of, newest, owner_of, note_of, first_entry}
 use Rattle.flight_table.proofs.Entries.{new_note}
 use Rattle.flight_table.proofs.book.Book.draw.Goals as goal
 
@@ -18,4 +18,4 @@ returns-clause-note g c =
     let d = ap (λ b. b.drawn) c.add-number.ensures.drawn in
     let v = c.newest-badge.ensures.badge.1 ∙ ap (λ l. newest (owner_of l) ∷ []) d ∙ ap (λ x. x ∷ []) (new_note _ _) in
     let t = c.newest-badge.ensures.badge.0 ∙ ap (λ b. b.table) c.add-number.ensures.drawn in
-    (λ i. record { book = t i; number = c.add-number.ensures.number i; entry = entry_of (v i) })
+    (λ i. record { book = t i; number = c.add-number.ensures.number i; entry = first_entry (v i) })

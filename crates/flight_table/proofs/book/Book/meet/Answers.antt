@@ -1,6 +1,6 @@
 use Rattle.std.proofs.Common.{arith, ap, sym, ◌∙◌}
 use Rattle.std.specs.Prelude.{slice_get}
-use Rattle.flight_table.specs.Note.{entry_of, shown}
+use Rattle.flight_table.specs.Note.{first_entry, shown}
 use Rattle.flight_table.proofs.Entries.{takes_in_as, checks_as, one_view}
 use Rattle.flight_table.proofs.book.Book.meet.Goals as goal
 
@@ -22,4 +22,4 @@ returns-clause-met c =
     let found = c.load.ensures.2.1 e (ap (λ m. m.0.entry) m ∙ ap (λ v. v.entry) u) in
     let at = ap (λ m. m.0.number) m ∙ ap (λ v. v.number) u ∙ ap (λ n. n.number) c.note.view_is in
     let d = ap (λ m. m.0.drawn) m ∙ ap (λ b. b.drawn) c.self.view_is in
-    (λ k. slice_get (sym d k) (sym at k)) ∙ found ∙ sym (ap entry_of views) ∙ ap (λ n. n.entry) c.note.view_is
+    (λ k. slice_get (sym d k) (sym at k)) ∙ found ∙ sym (ap first_entry views) ∙ ap (λ n. n.entry) c.note.view_is

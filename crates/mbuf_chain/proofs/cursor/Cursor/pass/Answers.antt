@@ -1,4 +1,4 @@
-use Rattle.std.proofs.Common.{◌≡◌, ◌+◌, ◌≤◌, ◌++◌, length, sym, ap, subst, ◌∙◌, arith}
+use Rattle.std.proofs.Common.{◌+◌, ◌≤◌, ◌++◌, length, sym, ap, subst, ◌∙◌, arith}
 use Rattle.mbuf_chain.specs.Chain.{packet_of}
 use Rattle.mbuf_chain.specs.Cursors.{At}
 use Rattle.mbuf_chain.specs.Piece.{piece_len}

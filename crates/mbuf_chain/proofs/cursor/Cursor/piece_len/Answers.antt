@@ -1,4 +1,4 @@
-use Rattle.std.proofs.Common.{◌≡◌, ℕ, ◌+◌, ◌-◌, ◌++◌, min, length, sym, ap, ◌∙◌}
+use Rattle.std.proofs.Common.{◌+◌, ◌-◌, ◌++◌, min, length, sym, ap, ◌∙◌}
 use Rattle.mbuf_chain.specs.Chain.{packet_of}
 use Rattle.mbuf_chain.specs.Cursors.{At}
 use Rattle.std.proofs.Common.{◌≤◌, subst}

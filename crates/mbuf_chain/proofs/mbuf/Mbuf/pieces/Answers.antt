@@ -1,8 +1,7 @@
 use Rattle.std_collections.proofs.IterRuns.{shows_in_order}
-use Rattle.std.proofs.Common.{◌≡◌, ℕ, List, ap, ◌∙◌, sym, take, drop}
+use Rattle.std.proofs.Common.{List, ap, ◌∙◌}
 use Rattle.std.specs.Map.Iter.{deref}
 use Rattle.seg_list.specs.Buffer.{Buffer}
-use Rattle.mbuf_chain.specs.Chain.{packet_of}
 use Rattle.mbuf_chain.specs.Pieces.{joined, pieces_of}
 use Rattle.mbuf_chain.proofs.Ranges.{joined-pieces_of}
 use Rattle.mbuf_chain.proofs.mbuf.Mbuf.pieces.Goals as goal

@@ -3,7 +3,7 @@ use Rattle.crypto_model.specs.Chain.{laid_at}
 use Rattle.crypto_model.proofs.Laid.{length-laid_at}
 use Rattle.seg_list.specs.Buffer.{Buffer}
 use Rattle.mbuf_chain.specs.Chain.{packet_of, with_packet}
-use Rattle.mbuf_chain.specs.Cursors.{At, moved, rewritten}
+use Rattle.mbuf_chain.specs.Cursors.{At, rewritten}
 use Rattle.mbuf_chain.specs.Kept.{IsKept}
 use Rattle.mbuf_chain.proofs.Kept.{kept_written}
 use Rattle.mbuf_chain.proofs.mbuf.Mbuf.write_at.Goals as goal

@@ -1,0 +1,40 @@
+//! A node of a chain, and a box that is held by its pointer.
+ghost use Rattle.std.specs.Prelude.{◌≡◌};
+ghost use Rattle.std_alloc.specs.Box.Ownership.{box_owns};
+
+use std::alloc::Allocator;
+use std::marker::Model;
+
+/// An element and where the next node lies. In the last node of a chain `next` means nothing.
+#[derive(Drop)]
+pub struct Node<T> {
+    pub(crate) next: *mut Node<T>,
+    pub(crate) elem: T,
+}
+
+/// A box as its pointer and its allocator, so that it can be linked.
+pub(crate) struct Loose<T, A: Allocator> {
+    pub(crate) at: *mut T,
+    pub(crate) alloc: A,
+    pub(crate) ghost value: { T },
+}
+
+impl<T, A: Allocator> Model for Loose<T, A> {
+    ghost also_owns = { λ l. box_owns (A.dealloc_token l.alloc) T.row l.at l.value };
+}
+
+impl<T: Drop, A: Allocator> Loose<T, A> {
+    pub(crate) fn of(node: Box<T, A>) -> Loose<T, A>
+        ensures { result.value ≡ node.value }
+    {
+        let (at, alloc) = Box::into_raw_with_allocator(node);
+        Loose { at, alloc }
+    }
+
+    pub(crate) fn into_box(self) -> Box<T, A>
+        ensures { result.value ≡ self.value }
+    {
+        let Loose { at, alloc } = self;
+        unsafe { Box::from_raw(alloc, at) }
+    }
+}

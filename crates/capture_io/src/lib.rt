@@ -35,6 +35,8 @@
 //!
 //! A `Source` or a `Sink` whose bytes contracts can know `tells` them; and `Rose` says that a count of
 //! faults rose, or stands at its last value.
+//!
+//! The proved test `a_capture_is_read_and_written_again` is a short caller.
 #![tactic(auto)]
 
 mod header;

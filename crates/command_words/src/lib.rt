@@ -17,9 +17,11 @@
 //!
 //! Contracts speak of words by these definitions of `specs`:
 //!
-//! - `asked` of `Asked`: what words ask for, or their fault. It is a function, so they have exactly one;
+//! - `wanted` of `Asked`: what words ask for, or their fault. It is a function, so they have exactly one;
 //! - `values_of` of `Options`: the values in words that the simple command takes, which `crypt_app` describes;
-//! - `Gives` of `Gives`: [`command_of`] answers what `asked` says, or that memory was wanting.
+//! - `Gives` of `Gives`: [`command_of`] answers what `wanted` says, or that memory was wanting.
+//!
+//! The proved test `the_words_of_crypt_are_read` is a short caller.
 #![tactic(auto)]
 
 mod command;

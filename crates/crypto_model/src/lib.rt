@@ -5,6 +5,8 @@
 //! `slow_encrypt` and `slow_product` are the definitions as programs, which faster code is compared with; the laws compute
 //! published vectors from the definitions. What several crates do alike stands here too: [`is_same`], [`times_x`],
 //! [`is_key_length`], the sizes of a [`Hash`].
+//!
+//! The proved test `slow_encrypt_gives_the_examples_of_the_standard` is a short caller.
 #![tactic(auto)]
 
 mod compare;

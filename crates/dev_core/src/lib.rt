@@ -8,6 +8,8 @@
 //!
 //! Two devices stand over any other: `StallDriver` moves at most so many operations in a call, and
 //! `LogDriver` logs what it takes, up to a number of entries.
+//!
+//! The proved test `short_calls_are_counted` is a short caller.
 #![tactic(auto)]
 
 mod cuts;

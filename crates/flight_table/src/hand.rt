@@ -33,7 +33,8 @@ impl Model for Hand {
     ghost view = { λ h. record { table = h.seat.table_id; slots = h.slots; view = h.seat.me.0 } };
 
     ghost invariant = { λ h. (h.seat.table_id ≡ (arc_value h.deck).shared.table_id) × (h.seat.table_id.words ≡ h.slots)
-        × (h.seat.table_id.slots ≡ h.slots) × (h.seat.me.1 ≡ []) × (h.seat.me.0.role ≡ Takes) × (h.seat.me.0.out ≡ None) × (h.seat.me.0.worker ≡ h.worker) × (h.worker < 8) };
+        × (h.seat.table_id.slots ≡ h.slots) × (h.seat.me.1 ≡ []) × (h.seat.me.0.role ≡ Takes) × (h.seat.me.0.out ≡ None)
+        × (h.seat.me.0.worker ≡ h.worker) × (h.worker < 8) };
 }
 
 impl Hand {

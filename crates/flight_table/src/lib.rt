@@ -16,7 +16,7 @@
 //!    +--------- collect ----------------------------------------------------+
 //! ```
 //!
-//! A worker that gives back whatever it takes, as the tests have it:
+//! A worker that gives back whatever it takes, as the proved test `what_a_worker_gives_back_is_recalled` has it:
 //!
 //! ```text
 //! fn returned(hand: &mut Hand, k: usize) -> Result<(), Word> {

@@ -39,7 +39,8 @@ impl Model for Owner {
     ghost view = { λ o. record { table = o.seat.table_id; slots = o.slots; view = o.seat.me.0 } };
 
     ghost invariant = { λ o. (o.seat.table_id ≡ (arc_value o.deck).shared.table_id) × (o.seat.table_id.words ≡ o.slots)
-        × (o.seat.table_id.slots ≡ o.slots) × (o.seat.me.1 ≡ []) × (o.seat.me.0.role ≡ Owns) × (o.seat.me.0.out ≡ None) × (0 < o.slots) × (o.seat.me.0.made ≤ 8) };
+        × (o.seat.table_id.slots ≡ o.slots) × (o.seat.me.1 ≡ []) × (o.seat.me.0.role ≡ Owns) × (o.seat.me.0.out ≡ None)
+        × (0 < o.slots) × (o.seat.me.0.made ≤ 8) };
 }
 
 impl Owner {

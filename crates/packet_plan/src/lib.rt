@@ -7,6 +7,8 @@
 //! - `way_of` of `Way` and `iv_of` of `Iv`: what a session's transforms say of its ranges, and its IVs;
 //! - `answered` of `Answered`: the record that is written for record n;
 //! - `IsBegun` and `IsAsked` of `Work`: the same of records and operations in memory.
+//!
+//! The proved test `a_packet_of_60_bytes_is_asked_for_by_its_session` is a short caller.
 #![tactic(auto)]
 
 mod choice;

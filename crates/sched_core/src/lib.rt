@@ -7,7 +7,7 @@
 //! An [`OrderRing`] is seen as a list of slots, numbered from `first` on. While an operation is with a worker
 //! it has its slot's number as pos, and the slot is open; once it is back the slot is settled, with the
 //! operation and its former pos. `pending_of` lists the entries of the slots in their order, each out of the
-//! ring or out of what the workers hold, and `IsSound` says that these agree: each open number is held once,
+//! ring or out of what the workers hold, and `IsRingSound` says that these agree: each open number is held once,
 //! and nothing else is held.
 //!
 //! Short callers are the proved tests `numbers_are_opened_and_taken_back` and

@@ -11,7 +11,15 @@ use Rattle.seg_list.specs.contracts.chain.Chain.{the_row}
 
 -- the same nodes with x as element i
 abbrev pub with_elem : {X : Type 0} → Chain X → ℕ → X → Chain X
-with_elem c i x = record { head = c.head; tail = c.tail; items = slice_set c.items i x; links = c.links; heap = c.heap; alike = c.alike ∙ sym (length-set c.items i x); chained = c.chained }
+with_elem c i x = record {
+  head = c.head;
+  tail = c.tail;
+  items = slice_set c.items i x;
+  links = c.links;
+  heap = c.heap;
+  alike = c.alike ∙ sym (length-set c.items i x);
+  chained = c.chained;
+}
 
 -- element i of c ends as the last value behind r
 abbrev pub LendsElem : (R : RattleType) → MutBor (Chain R.Denot) → ℕ → MutBor R.Denot → Fml

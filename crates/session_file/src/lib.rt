@@ -43,6 +43,8 @@
 //! - `IsSound` of `Sound`: what holds of each plan that [`parse`] answers. The transforms of each session make
 //!   a session, whose salt has the bytes that they take together; there are at most 1,024 sessions; and each
 //!   choice names one of them, which takes its skip.
+//!
+//! The proved test `a_plan_is_printed_and_read` is a short caller.
 #![tactic(auto)]
 
 mod draft;

@@ -15,3 +15,5 @@ pub mod Steps
 pub mod Doubles
 pub mod Pairs
 pub mod Sliced
+pub mod WideRounds
+pub mod WideInverse

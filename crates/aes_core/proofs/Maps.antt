@@ -1,9 +1,12 @@
 -- Vectors of bytes that are computed lane by lane.
-use Rattle.std.proofs.Common.{◌≡◌, ℕ, ◌<◌, ◌/◌, ◌^◌, Bool, true, T, List, [], ◌∷◌, length, map, refl, ap, subst, sym, ◌∙◌, w8, Fits, bit_and, bit_xor, replicate}
+use Rattle.std.proofs.Common.{◌≡◌, ℕ, zero, suc, ◌<◌, ◌+◌, ◌-◌, ◌*◌, ◌/◌, ◌^◌, Bool, true, false, cond, leb, ltb, T, List, [], ◌∷◌, ◌++◌, get_or, length, map, refl, arith, ap, subst, sym, ◌∙◌, w8, Fits, bit_and, bit_xor, replicate}
 use Rattle.std.proofs.lemmas.Simd.{zip2_splat, zip2_of_maps, map-map}
 use Rattle.std.specs.Simd.Lanes.{Each1, zip2}
+use Rattle.std.specs.Prelude.{◌||◌}
+use Rattle.std.proofs.lemmas.Bool.{ltb-true}
+use Rattle.std.proofs.lemmas.List.{get_or_append_left, get_or-append_right}
 use Rattle.crypto_model.proofs.Computed.{all_below, all_below_at}
-use Rattle.aes_core.specs.Nibbles.{read, high, low, both}
+use Rattle.aes_core.specs.Nibbles.{IsPlace, read, high, low, both}
 
 passes : (b : Bool) → b ≡ true → T b
 passes b e = subst T (sym e) tt
@@ -28,15 +31,33 @@ mapped h f g k v xs fits e same = ap (map h) e ∙ map-map h f v ∙ same_map (�
 abbrev down : ℕ → ℕ → ℕ
 down a b = a / 2 ^ b
 
-pub highs : (v : List ℕ) → length v ≡ 16 → zip2 down v (replicate 16 4) ≡ map high v
-highs v long = zip2_splat down v 16 4 long
+pub highs : {n : ℕ} (v : List ℕ) → length v ≡ n → zip2 down v (replicate n 4) ≡ map high v
+highs {n = n} v long = zip2_splat down v n 4 long
 
-pub lows : (v : List ℕ) → length v ≡ 16 → zip2 bit_and v (replicate 16 15) ≡ map low v
-lows v long = zip2_splat bit_and v 16 15 long
+pub lows : {n : ℕ} (v : List ℕ) → length v ≡ n → zip2 bit_and v (replicate n 15) ≡ map low v
+lows {n = n} v long = zip2_splat bit_and v n 15 long
 
-pub boths : (v : List ℕ) → length v ≡ 16 → zip2 bit_xor (zip2 bit_and v (replicate 16 15)) (zip2 down v (replicate 16 4)) ≡ map both v
+pub boths : {n : ℕ} (v : List ℕ) → length v ≡ n → zip2 bit_xor (zip2 bit_and v (replicate n 15)) (zip2 down v (replicate n 4)) ≡ map both v
 boths v long = zip2_of_maps bit_xor low high v (lows v long) (highs v long)
 
 -- a look-up at a vector that g computes from v
 pub looked : (t : List ℕ) (g : ℕ → ℕ) (v at : List ℕ) → at ≡ map g v → map (read t) at ≡ map (λ x. read t (g x)) v
 looked t g v at e = ap (map (read t)) e ∙ map-map (read t) g v
+
+-- a place in one half of a table that stands twice
+place_reads : (x y : ℕ) (b c : Bool) → T (b || c) → (c ≡ true → x ≡ y) → cond b 0 x ≡ cond b 0 y
+place_reads x y true c p h = refl
+place_reads x y false true p h = h refl
+place_reads x y false false p h = absurd p
+
+in_half : (table : List ℕ) (j h : ℕ) → length table ≡ 16 → h < 2 → j < 16 → get_or (table ++ table) (16 * h + j) 0 ≡ get_or table j 0
+in_half table j zero long lt below =
+    let here : 16 * 0 + j ≡ j = omega arith in
+    ap (λ (i : ℕ). get_or (table ++ table) i 0) here ∙ get_or_append_left table table 0 j (omega (arith, long))
+in_half table j (suc zero) long lt below =
+    let back : 16 * 1 + j - 16 ≡ j = omega arith in
+    get_or-append_right table table 16 (16 * 1 + j) 0 long (omega arith) ∙ ap (λ (i : ℕ). get_or table i 0) back
+in_half table j (suc (suc h)) long lt below = absurd (omega arith)
+
+pub half_read : (table : List ℕ) (j h : ℕ) → length table ≡ 16 → h < 2 → IsPlace j → cond (leb 128 j) 0 (get_or (table ++ table) (16 * h + j) 0) ≡ read table j
+half_read table j h long lt place = place_reads _ _ (leb 128 j) (ltb j 16) place (λ e. in_half table j h long lt (ltb-true j 16 e))

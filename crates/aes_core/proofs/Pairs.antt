@@ -63,7 +63,7 @@ unfolding add_round_key listed
 first_laid s t k = refl
 
 -- a fact on written lists, of any two blocks and any key
-on_any : (F : List ℕ → List ℕ → List ℕ) (G : List ℕ → List ℕ → List ℕ)
+pub on_any : (F : List ℕ → List ℕ → List ℕ) (G : List ℕ → List ℕ → List ℕ)
     → ((s t k : ℕ → ℕ) → F (named k ++ named k) (named s ++ named t) ≡ G (named k) (named s) ++ G (named k) (named t))
     → (w q : List ℕ) → length w ≡ 32 → length q ≡ 16 → F (q ++ q) w ≡ pairwise (G q) w
 on_any F G h w q lw lq =

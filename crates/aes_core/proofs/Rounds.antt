@@ -9,7 +9,7 @@ pub begins : (w block key y : List ℕ) → key ≡ take 16 (drop (16 * 0) w) �
 unfolding rounds
 begins w block key y k e = e ∙ ap (λ (q : List ℕ). add_round_key q 0 block) k ∙ key_alone w block 0
 
-inner_key : (w inner key : List ℕ) (r : ℕ) → map back_key inner ≡ w → key ≡ take 16 (drop (16 * r) inner) → map back_key key ≡ take 16 (drop (16 * r) w)
+pub inner_key : (w inner key : List ℕ) (r : ℕ) → map back_key inner ≡ w → key ≡ take 16 (drop (16 * r) inner) → map back_key key ≡ take 16 (drop (16 * r) w)
 inner_key w inner key r e k =
     ap (map back_key) k ∙ sym (take-map back_key 16 (drop (16 * r) inner)) ∙ ap (take 16) (sym (drop-map back_key (16 * r) inner))
     ∙ ap (λ (q : List ℕ). take 16 (drop (16 * r) q)) e

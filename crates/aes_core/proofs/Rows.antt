@@ -17,7 +17,7 @@ named y = y 0 ∷ y 1 ∷ y 2 ∷ y 3 ∷ y 4 ∷ y 5 ∷ y 6 ∷ y 7 ∷ y 8 �
 pub named_is : (s : List ℕ) → length s ≡ 16 → named (λ i. get_or s i 0) ≡ s
 named_is s long = pick_l_whole 0 s 16 long
 
-abbrev rows0 : List ℕ
+abbrev pub rows0 : List ℕ
 rows0 = 0 ∷ 5 ∷ 10 ∷ 15 ∷ 4 ∷ 9 ∷ 14 ∷ 3 ∷ 8 ∷ 13 ∷ 2 ∷ 7 ∷ 12 ∷ 1 ∷ 6 ∷ 11 ∷ []
 
 abbrev rows1 : List ℕ
@@ -30,17 +30,17 @@ abbrev rows3 : List ℕ
 rows3 = 15 ∷ 0 ∷ 5 ∷ 10 ∷ 3 ∷ 4 ∷ 9 ∷ 14 ∷ 7 ∷ 8 ∷ 13 ∷ 2 ∷ 11 ∷ 12 ∷ 1 ∷ 6 ∷ []
 
 -- what the code makes of SubBytes, of its double and of the key, by four shuffles
-abbrev shuffled : List ℕ → List ℕ → List ℕ → List ℕ → List ℕ → List ℕ → List ℕ → List ℕ
+abbrev pub shuffled : List ℕ → List ℕ → List ℕ → List ℕ → List ℕ → List ℕ → List ℕ → List ℕ
 shuffled p q r s one two k =
     zip2 bit_xor
     (zip2 bit_xor (zip2 bit_xor (pick_l 0 (two ++ two) p) (pick_l 0 (zip2 bit_xor two one ++ zip2 bit_xor two one) q))
     (zip2 bit_xor (pick_l 0 (one ++ one) r) (pick_l 0 (one ++ one) s)))
     k
 
-map_back-shuffled : (p q r s one two k : List ℕ) → map back (shuffled p q r s one two k) ≡ shuffled p q r s (map back one) (map back two) (map back k)
+pub map_back-shuffled : (p q r s one two k : List ℕ) → map back (shuffled p q r s one two k) ≡ shuffled p q r s (map back one) (map back two) (map back k)
 map_back-shuffled p q r s one two k = simp (map_back-xor, map_back-twice)
 
-abbrev made : List ℕ → List ℕ → List ℕ → List ℕ
+abbrev pub made : List ℕ → List ℕ → List ℕ → List ℕ
 made = shuffled rows0 rows1 rows2 rows3
 
 -- ---- the constants cancel but for one
@@ -95,7 +95,7 @@ pub round_laid : (s k : ℕ → ℕ) → laid row s k ≡ add_round_key (map (λ
 unfolding add_round_key mix_columns shift_rows sub_bytes listed
 round_laid s k = refl
 
-round_named : (s k : ℕ → ℕ) → made (map bare (named s)) (map bare_double (named s)) (named k)
+pub round_named : (s k : ℕ → ℕ) → made (map bare (named s)) (map bare_double (named s)) (named k)
     ≡ add_round_key (map (λ x. bit_xor x 0x63) (named k)) 0 (mix_columns (shift_rows (sub_bytes (named s))))
 round_named s k =
     let e : ◌≡◌ {A = ℕ → ℕ → ℕ → ℕ → ℕ → ℕ} row_made row = λ i a b c d m. row_is a b c d m i in
@@ -107,7 +107,7 @@ last_named s = refl
 
 -- ---- what the code ensures
 
-key_back : (k : List ℕ) → map (λ x. bit_xor x 0x63) (map back k) ≡ map back_key k
+pub key_back : (k : List ℕ) → map (λ x. bit_xor x 0x63) (map back k) ≡ map back_key k
 unfolding back_key
 key_back k = map-map (λ x. bit_xor x 0x63) back k
 

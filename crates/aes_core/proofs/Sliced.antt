@@ -30,7 +30,7 @@ length-rounds w s zero = length-listed 16 _
 length-rounds w s (suc r) = length-listed 16 _
 
 -- f after g, which gives blocks
-pair_then : (f g : List ℕ → List ℕ) → ((x : List ℕ) → length (g x) ≡ 16) → (v : List ℕ) → pairwise f (pairwise g v) ≡ pairwise (λ x. f (g x)) v
+pub pair_then : (f g : List ℕ → List ℕ) → ((x : List ℕ) → length (g x) ≡ 16) → (v : List ℕ) → pairwise f (pairwise g v) ≡ pairwise (λ x. f (g x)) v
 pair_then f g long v =
     let a = g (take 16 v) in
     let b = g (drop 16 v) in

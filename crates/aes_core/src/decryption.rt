@@ -4,9 +4,12 @@ ghost use Rattle.crypto_model.specs.Aes.{add_round_key, inverse_cipher_with, inv
 
 mod steps;
 mod tables;
+mod wide;
 
+use crate::wide::{paired, parted};
 use std::simd::prelude::*;
 use steps::{add_round_key, inverse_mix_columns, inverse_shift_rows, inverse_sub_bytes};
+use wide::decrypt_two_pairs;
 
 #[inline(always)]
 fn inverse_round(words: &[u8; 240], round: usize, state: u8x16) -> u8x16
@@ -37,7 +40,7 @@ pub(crate) fn decrypt_block(words: &[u8; 240], rounds: usize, block: u8x16) -> u
     last_round(words, state)
 }
 
-// The same of four blocks side by side, which keeps the processor busy.
+// The same of four blocks, two in a vector.
 #[inline(always)]
 pub(crate) fn decrypt_four_blocks(
     words: &[u8; 240],
@@ -53,20 +56,7 @@ pub(crate) fn decrypt_four_blocks(
     ensures third { result.2 ≡ inverse_cipher_with words.now rounds c }
     ensures fourth { result.3 ≡ inverse_cipher_with words.now rounds d }
 {
-    let mut w = add_round_key(words, rounds, a);
-    let mut x = add_round_key(words, rounds, b);
-    let mut y = add_round_key(words, rounds, c);
-    let mut z = add_round_key(words, rounds, d);
-    'rounds: for round in (1..rounds).rev() {
-        w = inverse_round(words, round, w);
-        x = inverse_round(words, round, x);
-        y = inverse_round(words, round, y);
-        z = inverse_round(words, round, z);
-    }
-    (
-        last_round(words, w),
-        last_round(words, x),
-        last_round(words, y),
-        last_round(words, z),
-    )
+    let (s, t) = decrypt_two_pairs(words, rounds, paired(a, b), paired(c, d));
+    let ((a, b), (c, d)) = (parted(s), parted(t));
+    (a, b, c, d)
 }

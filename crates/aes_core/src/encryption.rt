@@ -4,6 +4,7 @@ ghost use Rattle.crypto_model.specs.Aes.{add_round_key, cipher_with, mix_columns
 ghost use Rattle.aes_core.specs.Basis.{back, back_key};
 
 use crate::nibbles::{into_basis, substituted, substituted_plainly};
+use crate::wide::{encrypt_two_pairs, paired, parted};
 use std::simd::prelude::*;
 
 // Round key `r` of a schedule.
@@ -62,7 +63,7 @@ pub(crate) fn encrypt_block(
     last_round(y, round_key(words, rounds))
 }
 
-// The same of four blocks side by side, which keeps the processor busy.
+// The same of four blocks, two in a vector.
 #[inline(always)]
 pub(crate) fn encrypt_four_blocks(
     words: &[u8; 240],
@@ -80,25 +81,7 @@ pub(crate) fn encrypt_four_blocks(
     ensures third { result.2 ≡ cipher_with words.now rounds c }
     ensures fourth { result.3 ≡ cipher_with words.now rounds d }
 {
-    let key = round_key(words, 0);
-    let (mut s, mut t, mut u, mut v) = (
-        first_key(a, key),
-        first_key(b, key),
-        first_key(c, key),
-        first_key(d, key),
-    );
-    'rounds: for r in 1..rounds {
-        let key = round_key(inner, r);
-        s = round(s, key);
-        t = round(t, key);
-        u = round(u, key);
-        v = round(v, key);
-    }
-    let key = round_key(words, rounds);
-    (
-        last_round(s, key),
-        last_round(t, key),
-        last_round(u, key),
-        last_round(v, key),
-    )
+    let (s, t) = encrypt_two_pairs(words, inner, rounds, paired(a, b), paired(c, d));
+    let ((a, b), (c, d)) = (parted(s), parted(t));
+    (a, b, c, d)
 }

@@ -12,6 +12,8 @@ mod key;
 mod nibbles;
 mod planes;
 mod tables;
+mod wide;
+mod wide_nibbles;
 
 pub use key::{Key, decrypt, decrypt_four, encrypt, encrypt_four, encrypt_sixteen};
 

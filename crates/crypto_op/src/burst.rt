@@ -1,9 +1,11 @@
 //! A list of operations with a fixed capacity.
-ghost use Rattle.std.specs.Prelude.{◌≡◌, ◌==◌, ◌∷◌, [], ◌++◌, ◌+◌, ◌<◌, ◌≤◌, ◌-◌, length, IfOk, IsSome, ◌↔◌, slice_index_or};
+ghost use Rattle.std.specs.Prelude.{◌≡◌, ◌==◌, ◌∷◌, [], ◌++◌, ◌+◌, ◌<◌, ◌≤◌, ◌-◌, length, take, drop, IfOk, IsSome, ◌↔◌, slice_index_or};
+ghost use Rattle.std.specs.VecDeque.{deque_len, deque_capacity};
 ghost use Rattle.std.specs.Option.{option_to_list};
 ghost use Rattle.crypto_op.specs.Burst.{at_pos};
 
 use crate::Op;
+use crate::moves::move_front;
 use crypto_model::OutOfMemory;
 use std::alloc::Global;
 use std::collections::VecDeque;
@@ -100,5 +102,27 @@ impl<C> OpBurst<C> {
     {
         let op = &mut self.ops[i];
         op.set_pos(pos);
+    }
+
+    /// Moves the first `n` operations behind those of a queue that has room for them.
+    pub fn drain_to(&mut self, queue: &mut VecDeque<Op<C>>, n: usize)
+        requires enough { n ≤ length self.old.ops }
+        requires room { deque_len queue.old + n ≤ deque_capacity queue.old }
+        ensures rest { self.new ≡ record self.old { ops = drop n self.old.ops } }
+        ensures items { queue.new.items ≡ queue.old.items ++ take n self.old.ops }
+        ensures capacity { deque_capacity queue.old ≤ deque_capacity queue.new }
+    {
+        move_front(&mut self.ops, queue, n);
+    }
+
+    /// Moves the first `n` operations of a queue behind those that are here. There must be room.
+    pub fn fill_from(&mut self, queue: &mut VecDeque<Op<C>>, n: usize)
+        requires enough { n ≤ deque_len queue.old }
+        requires room { n ≤ self.old.cap - length self.old.ops }
+        ensures ops { self.new ≡ record self.old { ops = self.old.ops ++ take n queue.old.items } }
+        ensures rest { queue.new.items ≡ drop n queue.old.items }
+        ensures capacity { deque_capacity queue.new ≡ deque_capacity queue.old }
+    {
+        move_front(queue, &mut self.ops, n);
     }
 }

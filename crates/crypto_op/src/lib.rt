@@ -10,6 +10,7 @@
 #![tactic(auto)]
 
 mod burst;
+mod moves;
 mod op;
 mod spec;
 

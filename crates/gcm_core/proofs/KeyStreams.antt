@@ -4,11 +4,9 @@ use Rattle.std.specs.Int.{w32, to_be_bytes}
 use Rattle.std.specs.List.{range_with_len}
 use Rattle.std.specs.Simd.Lanes.{pick_l}
 use Rattle.std.proofs.lemmas.Simd.{pick_l_whole}
-use Rattle.std.proofs.lemmas.List.{append-nil}
 use Rattle.crypto_model.specs.Modes.{xor_with, cut, blocks}
 use Rattle.crypto_model.specs.Gcm.{iv_block, gctr_from, gcm_text}
-use Rattle.gcm_core.specs.Streaming.{key_stream}
-use Rattle.gcm_core.proofs.XorLists.{xor_with-parts, xor_with-longer}
+use Rattle.aes_modes.proofs.XorLists.{xor_with-parts, xor_with-longer}
 
 -- ---- counter blocks
 
@@ -20,7 +18,7 @@ iv_block-made iv bs n long small is =
     ∙ ap (λ (xs : List ℕ). iv ++ xs) (pick_l_whole 0 bs 4 (ap length is) ∙ is ∙ ap (to_be_bytes w32) same)
 
 -- counter blocks go round at 2 ^ 32
-iv_block-same : (iv : List ℕ) (a b : ℕ) → a % 2 ^ 32 ≡ b % 2 ^ 32 → iv_block iv a ≡ iv_block iv b
+pub iv_block-same : (iv : List ℕ) (a b : ℕ) → a % 2 ^ 32 ≡ b % 2 ^ 32 → iv_block iv a ≡ iv_block iv b
 iv_block-same iv a b h = ap (λ (n : ℕ). iv ++ to_be_bytes w32 n) h
 
 pub iv_block-round : (iv : List ℕ) (n : ℕ) → iv_block iv (n % 2 ^ 32) ≡ iv_block iv n
@@ -28,21 +26,10 @@ iv_block-round iv n = iv_block-same iv (n % 2 ^ 32) n (omega arith)
 
 -- ---- the key stream
 
-pub key_stream-zero : (e : List ℕ → List ℕ) (iv : List ℕ) (n : ℕ) → key_stream e iv n 0 ≡ []
-unfolding key_stream
-key_stream-zero e iv n = refl
-
-pub key_stream-one : (e : List ℕ → List ℕ) (iv : List ℕ) (n : ℕ) → key_stream e iv n 1 ≡ e (iv_block iv n)
-unfolding key_stream
-key_stream-one e iv n = append-nil (e (iv_block iv n))
-
-pub key_stream-four : (e : List ℕ → List ℕ) (iv : List ℕ) (n : ℕ) → key_stream e iv n 4
-    ≡ (e (iv_block iv n) ++ e (iv_block iv (n + 1))) ++ (e (iv_block iv (n + 2)) ++ e (iv_block iv (n + 3)))
-unfolding key_stream
-key_stream-four e iv n =
-    let two : n + 1 + 1 ≡ n + 2 = omega arith in
-    let three : n + 2 + 1 ≡ n + 3 = omega arith in
-    rw (two, three, append-nil, append_assoc) refl
+-- k blocks of key stream from counter block n on
+unfoldable pub key_stream : (List ℕ → List ℕ) → List ℕ → ℕ → ℕ → List ℕ
+key_stream e iv n zero = []
+key_stream e iv n (suc k) = e (iv_block iv n) ++ key_stream e iv (n + 1) k
 
 -- it goes round at 2 ^ 32
 pub key_stream-same : (e : List ℕ → List ℕ) (iv : List ℕ) (a b k : ℕ) → a % 2 ^ 32 ≡ b % 2 ^ 32 → key_stream e iv a k ≡ key_stream e iv b k

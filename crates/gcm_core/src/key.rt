@@ -41,7 +41,8 @@ impl GcmKey {
         }
     }
 
-    pub(crate) fn cipher_key(&self) -> &Key
+    /// The key of the cipher.
+    pub fn cipher_key(&self) -> &Key
         ensures { result.now ≡ self.now }
     {
         &self.key

@@ -1,18 +1,8 @@
 //! The exclusive or with key stream, in place.
-ghost use Rattle.std.specs.Prelude.{◌≡◌, ◌≤◌, ◌++◌, length};
+ghost use Rattle.std.specs.Prelude.{◌≡◌, length};
 ghost use Rattle.crypto_model.specs.Modes.{xor_with};
 
 use std::simd::prelude::*;
-
-// At any bytes, one by one.
-pub(crate) fn xor_bytes(text: &mut [u8], stream: &[u8])
-    requires { length text.old ≤ length stream.now }
-    ensures { text.new ≡ xor_with text.old stream.now }
-{
-    for i in 0..text.len() {
-        text[i] ^= stream[i];
-    }
-}
 
 #[inline(always)]
 pub(crate) fn xor_block(block: &mut [u8], stream: u8x16)
@@ -20,24 +10,4 @@ pub(crate) fn xor_block(block: &mut [u8], stream: u8x16)
     ensures { block.new ≡ xor_with block.old stream }
 {
     (u8x16::from_slice(block) ^ stream).copy_to_slice(block);
-}
-
-#[inline(always)]
-fn xor_two(blocks: &mut [u8], a: u8x16, b: u8x16)
-    requires { length blocks.old ≡ 32 }
-    ensures { blocks.new ≡ xor_with blocks.old (a ++ b) }
-{
-    let (first, second) = blocks.split_at_mut(16);
-    xor_block(first, a);
-    xor_block(second, b);
-}
-
-#[inline(always)]
-pub(crate) fn xor_four(blocks: &mut [u8], a: u8x16, b: u8x16, c: u8x16, d: u8x16)
-    requires { length blocks.old ≡ 64 }
-    ensures { blocks.new ≡ xor_with blocks.old ((a ++ b) ++ (c ++ d)) }
-{
-    let (first, second) = blocks.split_at_mut(32);
-    xor_two(first, a, b);
-    xor_two(second, c, d);
 }

@@ -1,5 +1,5 @@
 -- What a key, a hash under way and a code under way hold.
-use Rattle.std.specs.Prelude.{◌≡◌, ◌-◌, ℕ, List, ◌++◌, take, drop, replicate}
+use Rattle.std.specs.Prelude.{◌≡◌, ℕ, List, ◌++◌, replicate}
 use Rattle.sha2.specs.Hashers.{Holds224, Holds256, Holds384, Holds512}
 use Rattle.crypto_model.specs.declared.plain.Hash.{Hash}
 use Rattle.crypto_model.specs.declared.plain.Hash.TheVariants as H
@@ -18,18 +18,17 @@ key_block hash key = block_key (hash_of hash) (block_size hash) key
 abbrev pub padded_key : Hash → List ℕ → ℕ → List ℕ
 padded_key hash key pad = xor_with (key_block hash key) (replicate (block_size hash) pad)
 
--- k is this key for this hash function
-pub record IsKeyOf (hash : Hash) (key : List ℕ) (k : HmacKey) : Type 0 where
-  pub same_hash : k.hash ≡ hash
-  pub block_is : take (block_size hash) k.block ≡ key_block hash key
-  pub zeros : drop (block_size hash) k.block ≡ replicate (128 - block_size hash) 0
-
 -- the state is this hash function's, and has taken in the message m
 abbrev pub StateHolds : Hash → State → List ℕ → Type 0
 StateHolds hash (Sha224 s) m = (hash ≡ H.Sha224) × Holds224 s m
 StateHolds hash (Sha256 s) m = (hash ≡ H.Sha256) × Holds256 s m
 StateHolds hash (Sha384 s) m = (hash ≡ H.Sha384) × Holds384 s m
 StateHolds hash (Sha512 s) m = (hash ≡ H.Sha512) × Holds512 s m
+
+-- k is this key for this hash function
+pub record IsKeyOf (hash : Hash) (key : List ℕ) (k : HmacKey) : Type 0 where
+  pub inner_begun : StateHolds hash k.inner (padded_key hash key 0x36)
+  pub outer_begun : StateHolds hash k.outer (padded_key hash key 0x5c)
 
 -- begun with this key, h has taken in this text
 pub record HmacHolds (hash : Hash) (key : List ℕ) (h : Hmac) (text : List ℕ) : Type 0 where

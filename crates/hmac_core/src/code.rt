@@ -7,10 +7,6 @@ use crate::state::State;
 use crate::tag::MacTag;
 use crypto_model::{Hash, is_same};
 
-const INNER_PAD: u8 = 0x36;
-
-const OUTER_PAD: u8 = 0x5c;
-
 /// HMAC of a text that comes in pieces.
 #[derive(Drop)]
 pub struct Hmac {
@@ -25,10 +21,8 @@ impl Hmac {
     pub fn start(key: &HmacKey) -> Hmac
         ensures { (hash : Hash) (bytes : List ℕ) → IsKeyOf hash bytes key.now → HmacHolds hash bytes result [] }
     {
-        Hmac {
-            inner: key.hashed_under(INNER_PAD),
-            outer: key.hashed_under(OUTER_PAD),
-        }
+        let (inner, outer) = key.begun();
+        Hmac { inner, outer }
     }
 
     /// Takes in the next piece of the text.

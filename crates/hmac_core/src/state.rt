@@ -6,6 +6,16 @@ use crate::tag::MacTag;
 use crypto_model::Hash;
 use sha2::{Digest, Sha224, Sha256, Sha384, Sha512};
 
+fn copied<T: Clone>(value: &T) -> T
+    requires { T.is_infallible value.now }
+    ensures { T.is_clone value.now result }
+{
+    match value.clone() {
+        Ok(copy) => copy,
+        Err(_) => unreachable!(),
+    }
+}
+
 #[derive(Drop)]
 pub(crate) enum State {
     Sha224(Sha224),
@@ -25,6 +35,17 @@ impl State {
             Hash::Sha256 => State::Sha256(Sha256::new()),
             Hash::Sha384 => State::Sha384(Sha384::new()),
             Hash::Sha512 => State::Sha512(Sha512::new()),
+        }
+    }
+
+    pub(crate) fn copied(&self) -> State
+        ensures { result ≡ self.now }
+    {
+        match self {
+            State::Sha224(hasher) => State::Sha224(copied(hasher)),
+            State::Sha256(hasher) => State::Sha256(copied(hasher)),
+            State::Sha384(hasher) => State::Sha384(copied(hasher)),
+            State::Sha512(hasher) => State::Sha512(copied(hasher)),
         }
     }
 

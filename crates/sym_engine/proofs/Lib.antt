@@ -1,4 +1,3 @@
-pub mod Steps
 pub mod EachItem
 pub mod Written
 pub mod Ordered

@@ -1,5 +1,5 @@
 -- A transform at work on an operation.
-use Rattle.std.specs.Prelude.{◌≡◌, ℕ, ◌+◌, ◌%◌, ◌≤◌, List, ◌++◌, length, take, drop, Bool, true, false, Option, None, Some}
+use Rattle.std.specs.Prelude.{◌≡◌, ℕ, ◌+◌, ◌%◌, ◌≤◌, List, length, Bool, true, false, Option, None, Some}
 use Rattle.crypto_model.specs.declared.plain.DigestPlace.{DigestPlace}
 use Rattle.crypto_model.specs.declared.plain.DigestPlace.TheVariants.{Nowhere, InChain, OwnField}
 use Rattle.crypto_model.specs.declared.plain.CipherAlg.{CipherAlg}

@@ -8,7 +8,7 @@ ghost use Rattle.std.specs.Arc.{arc_value};
 ghost use Rattle.crypto_op.specs.declared.burst.TheConstants.{MAX_OPS};
 ghost use Rattle.crypto_op.specs.Op.{IsFresh, entry_of};
 
-use crate::moves::{give_out, take_in};
+use crate::moves::give_out;
 use crypto_model::OutOfMemory;
 use crypto_op::{MAX_OPS, Op, OpBurst};
 use dev_core::{Device, Driver, Kind, SetUpRefused, Stats};
@@ -78,7 +78,7 @@ impl<C> Driver<C> for PlainDriver<C> {
     fn enqueue_burst(&mut self, burst: &mut OpBurst<C>, max: usize) -> usize {
         let offered = max.min(burst.len());
         let n = offered.min(self.depth - self.queue.len());
-        take_in(burst, &mut self.queue, n);
+        burst.drain_to(&mut self.queue, n);
         self.stats.count_enqueue(offered, n);
         n
     }

@@ -1,6 +1,7 @@
 //! An operation from its checks to its status.
-ghost use Rattle.std.specs.Prelude.{◌≡◌, ℕ, List, map, true, false, Some};
-ghost use Rattle.crypto_model.specs.Process.{all_worked, answer_of, fits, processed};
+ghost use Rattle.std.specs.Prelude.{◌≡◌, ℕ, List, [], ◌∷◌, map, true, false, Some, IfSome};
+ghost use Rattle.std.specs.Box.{box_value};
+ghost use Rattle.crypto_model.specs.Process.{Cipher, all_worked, answer_of, fits, processed};
 ghost use Rattle.mbuf_chain.specs.Chain.{packet_of, shape_of};
 ghost use Rattle.crypto_op.specs.Op.{input_of, present, entry_of, IsFresh, IsDone};
 ghost use Rattle.sym_session.specs.First.{VerifiesFirst};
@@ -8,10 +9,10 @@ ghost use Rattle.sym_session.specs.Plain.{plain};
 ghost use Rattle.sym_engine.specs.Working.{input_for, target_of, with_target, work_of, outcome, with_answer, IsWritten};
 
 use crate::checks::all_fit;
-use crate::work::step_work;
+use crate::work::{cipher_work, step_work};
 use crypto_model::Status;
 use crypto_op::Op;
-use sym_session::{Session, SessionTable, Step};
+use sym_session::{CipherStep, Session, SessionTable, Step};
 
 // The transforms, one after another; false where a digest isn't the computed one.
 fn all_work<C>(steps: &[Step], op: &mut Op<C>, digest: &mut [u8; 64]) -> bool
@@ -31,6 +32,16 @@ fn all_work<C>(steps: &[Step], op: &mut Op<C>, digest: &mut [u8; 64]) -> bool
     true
 }
 
+// The only step of a session, where that is a cipher, which has no digest.
+fn lone_cipher(steps: &[Step]) -> Option<&CipherStep>
+    ensures { IfSome result (λ step. map plain steps.now ≡ Cipher step.now.alg step.now.dir (box_value step.now.key) ∷ []) }
+{
+    match steps.first() {
+        Some(Step::Cipher(step)) if steps.len() == 1 => Some(step),
+        _ => None,
+    }
+}
+
 // Changes packet and digest field as the answer under this session says, and gives the answer's status.
 fn answer_under<C>(session: &Session, op: &mut Op<C>) -> Status
     ensures status { result ≡ (answer_of session.now (input_of (present op.old))).status }
@@ -40,6 +51,10 @@ fn answer_under<C>(session: &Session, op: &mut Op<C>) -> Status
     let steps = session.steps();
     if !all_fit(steps, op.spec(), op.chain().len()) {
         return Status::InvalidArgs;
+    }
+    if let Some(step) = lone_cipher(steps) {
+        cipher_work(step, op);
+        return Status::Success;
     }
     let mut digest = op.spec().digest;
     if !all_work(steps, op, &mut digest) {

@@ -1,5 +1,6 @@
 //! One transform at work on an operation.
 ghost use Rattle.std.specs.Prelude.{◌≡◌, ◌≤◌, ◌+◌, ◌%◌, ℕ, [], List, length, take, false, bytes_eq, is_ok, IfOk, Some};
+ghost use Rattle.std.specs.Box.{box_value};
 ghost use Rattle.crypto_model.specs.declared.plain.CipherAlg.TheVariants.{AesCbc};
 ghost use Rattle.crypto_model.specs.Chain.{laid_at};
 ghost use Rattle.crypto_model.specs.declared.plain.Dir.{Dir};
@@ -44,7 +45,7 @@ fn nonce(iv: &[u8]) -> [u8; 12]
 fn crypt(step: &CipherStep, iv: [u8; 16], chain: &mut Mbuf, range: Range)
     requires inside { range.off + range.len ≤ length (packet_of chain.old) }
     requires whole { step.now.alg ≡ AesCbc → range.len % 16 ≡ 0 }
-    ensures { chain.new ≡ ciphered step.now.alg step.now.dir step.now.key iv range chain.old }
+    ensures { chain.new ≡ ciphered step.now.alg step.now.dir (box_value step.now.key) iv range chain.old }
 {
     match step.alg {
         CipherAlg::AesCtr => {
@@ -101,9 +102,10 @@ fn write_digest(place: DigestPlace, code: &[u8], chain: &mut Mbuf, digest: &mut 
     }
 }
 
-fn cipher_work<C>(step: &CipherStep, op: &mut Op<C>)
-    requires { ready (input_for op.old.spec (packet_of (target_of op.old))) (Cipher step.now.alg step.now.dir step.now.key) }
-    ensures { op.new ≡ with_target op.old (ciphered step.now.alg step.now.dir step.now.key op.old.spec.iv op.old.spec.cipher (target_of op.old)) }
+/// The step of a cipher, which leaves the digest field alone.
+pub(crate) fn cipher_work<C>(step: &CipherStep, op: &mut Op<C>)
+    requires { ready (input_for op.old.spec (packet_of (target_of op.old))) (Cipher step.now.alg step.now.dir (box_value step.now.key)) }
+    ensures { op.new ≡ with_target op.old (ciphered step.now.alg step.now.dir (box_value step.now.key) op.old.spec.iv op.old.spec.cipher (target_of op.old)) }
 {
     let iv = block(op.spec().iv.bytes());
     let range = op.spec().cipher;

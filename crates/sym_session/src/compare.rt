@@ -21,7 +21,7 @@ fn is_same_step(a: &Step, b: &Step) -> bool
         }
         (Step::Aead(a), Step::Aead(b)) => {
             a.dir() == b.dir()
-                && a.key_bytes().bytes() == b.key_bytes().bytes()
+                && a.key_bytes() == b.key_bytes()
                 && a.tag_len() == b.tag_len()
                 && a.aad_len() == b.aad_len()
         }

@@ -55,7 +55,7 @@ impl Step {
             Xform::Cipher { alg, dir, key } => Ok(Step::Cipher(CipherStep {
                 alg: *alg,
                 dir: *dir,
-                key: expanded(key),
+                key: Box::new(alloc, expanded(key))?,
             })),
             Xform::Auth {
                 hash,
@@ -66,7 +66,7 @@ impl Step {
                 hash: *hash,
                 act: *act,
                 bytes: KeyBytes::copy(alloc, key.bytes())?,
-                ready: code_key(*hash, key),
+                ready: Box::new(alloc, code_key(*hash, key))?,
                 len: *digest_len,
             })),
             Xform::Aead {
@@ -76,8 +76,7 @@ impl Step {
                 aad_len,
             } => Ok(Step::Aead(AeadStep {
                 dir: *dir,
-                bytes: KeyBytes::copy(alloc, key.bytes())?,
-                ready: Box::new(alloc, GcmKey::new(expanded(key)))?,
+                key: Box::new(alloc, GcmKey::new(expanded(key)))?,
                 tag_len: *tag_len,
                 aad_len: *aad_len,
             })),
@@ -97,12 +96,12 @@ impl Step {
     }
 }
 
-/// AES in a mode, under an expanded key.
+/// AES in a mode, under an expanded key, which is boxed, as those of the other steps, so that a step is small.
 #[derive(Drop)]
 pub struct CipherStep {
     pub alg: CipherAlg,
     pub dir: Dir,
-    pub key: Key,
+    pub key: Box<Key>,
 }
 
 /// HMAC under a key, cut to its first bytes. Contracts see it as what was asked for: the hash function, the
@@ -112,12 +111,13 @@ pub struct AuthStep {
     hash: Hash,
     act: Act,
     bytes: KeyBytes,
-    ready: HmacKey,
+    ready: Box<HmacKey>,
     len: usize,
 }
 
 impl Model for AuthStep {
     ghost use Rattle.std.specs.Prelude.{◌≤◌};
+    ghost use Rattle.std.specs.Box.{box_value};
     ghost use Rattle.crypto_model.specs.Hmac.{digest_size};
     ghost use Rattle.hmac_core.specs.States.{IsKeyOf};
     ghost use Rattle.sym_session.specs.Auth.{AuthSpec};
@@ -126,7 +126,7 @@ impl Model for AuthStep {
 
     ghost view = { λ s. record { hash = s.hash; act = s.act; key = s.bytes; len = s.len } };
 
-    ghost invariant = { λ s. IsKeyOf s.hash s.bytes s.ready × (4 ≤ s.len) × (s.len ≤ digest_size s.hash) };
+    ghost invariant = { λ s. IsKeyOf s.hash s.bytes (box_value s.ready) × (4 ≤ s.len) × (s.len ≤ digest_size s.hash) };
 }
 
 impl AuthStep {
@@ -173,22 +173,21 @@ impl AuthStep {
 #[derive(Drop)]
 pub struct AeadStep {
     dir: Dir,
-    bytes: KeyBytes,
-    ready: Box<GcmKey>,
+    key: Box<GcmKey>,
     tag_len: usize,
     aad_len: usize,
 }
 
 impl Model for AeadStep {
-    ghost use Rattle.std.specs.Prelude.{◌≡◌, ◌≤◌};
+    ghost use Rattle.std.specs.Prelude.{◌≤◌};
     ghost use Rattle.std.specs.Box.{box_value};
     ghost use Rattle.sym_session.specs.Aead.{AeadSpec};
 
     ghost Value = { AeadSpec };
 
-    ghost view = { λ s. record { dir = s.dir; key = s.bytes; tag_len = s.tag_len; aad_len = s.aad_len } };
+    ghost view = { λ s. record { dir = s.dir; key = box_value s.key; tag_len = s.tag_len; aad_len = s.aad_len } };
 
-    ghost invariant = { λ s. (box_value s.ready ≡ s.bytes) × (4 ≤ s.tag_len) × (s.tag_len ≤ 16) };
+    ghost invariant = { λ s. (4 ≤ s.tag_len) × (s.tag_len ≤ 16) };
 }
 
 impl AeadStep {
@@ -203,14 +202,14 @@ impl AeadStep {
     pub fn key(&self) -> &GcmKey
         ensures { result.now ≡ self.now.key }
     {
-        &self.ready
+        &self.key
     }
 
     /// The key as it was given.
-    pub fn key_bytes(&self) -> &KeyBytes
+    pub fn key_bytes(&self) -> &[u8]
         ensures { result.now ≡ self.now.key }
     {
-        &self.bytes
+        self.key.cipher_key().bytes()
     }
 
     /// The length of the tag, in bytes.

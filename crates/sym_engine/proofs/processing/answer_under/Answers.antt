@@ -1,6 +1,7 @@
 use Rattle.std.proofs.Common.{◌≡◌, length, map, None, Some, true, false, refl, sym, ap, subst, ◌∙◌}
+use Rattle.std.specs.Box.{box_value}
 use Rattle.crypto_model.specs.declared.plain.Status.TheVariants.{AuthFailed, InvalidArgs}
-use Rattle.crypto_model.specs.Process.{fits}
+use Rattle.crypto_model.specs.Process.{fits, crypted, bytes_in}
 use Rattle.mbuf_chain.specs.Chain.{packet_of, shape_of}
 use Rattle.mbuf_chain.proofs.Chains.{shape_of-with_packet}
 use Rattle.crypto_op.specs.Op.{input_of, present}
@@ -10,6 +11,7 @@ use Rattle.sym_session.specs.First.{VerifiesFirst}
 use Rattle.sym_session.specs.Plain.{plain}
 use Rattle.sym_engine.specs.Working.{input_for, work_of}
 use Rattle.sym_engine.proofs.Answered.{unfit, worked_off, refused_with, done_with, fit_as, work_as}
+use Rattle.sym_engine.proofs.Written.{written_laid}
 use Rattle.sym_engine.proofs.processing.answer_under.Goals as goal
 
 pub returns-then-not-all_fit : goal.returns-then-not-all_fit
@@ -22,6 +24,15 @@ returns-then-not-all_fit g c =
     sym (fit_as c.steps-steps.result.now session c.spec.result.now op.spec packet c.all_fit.result c.steps-steps.ensures.transforms c.spec.ensures (c.all_fit.ensures packet long)) ∙ c.if-not-all_fit.true in
     let r = refused_with op op.chain _ InvalidArgs (unfit session (input_of (present op)) bad) refl in
     record { status = r.0; answer = r.1; shape = refl }
+
+pub returns-in-Some-clause-shape : goal.returns-in-Some-clause-shape
+returns-in-Some-clause-shape g c =
+    let op = c.args.op.now in
+    let step = c.in-Some.step.now in
+    let after = c.cipher_work.new.op.chain in
+    let text = crypted step.alg step.dir (box_value step.key) op.spec.iv (bytes_in op.spec.cipher (packet_of op.chain)) in
+    let written = written_laid op.chain after op.spec.cipher.off text (ap (λ (o : Op g.row.C.Denot). o.chain) c.cipher_work.ensures) in
+    ap shape_of written.1.0 ∙ shape_of-with_packet op.chain (packet_of after) written.1.1
 
 pub all_work-requires-clause-fit : goal.all_work-requires-clause-fit
 all_work-requires-clause-fit g c =

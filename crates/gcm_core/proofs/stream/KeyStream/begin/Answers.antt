@@ -1,9 +1,17 @@
-use Rattle.std.proofs.Common.{ap, length}
-use Rattle.gcm_core.specs.declared.stream.KeyStream.{KeyStream}
-use Rattle.gcm_core.proofs.FedPieces.{fed_none}
+use Rattle.std.proofs.Common.{refl, arith, []}
 use Rattle.gcm_core.proofs.stream.KeyStream.begin.Goals as goal
 
 pub returns-clause-stream : goal.returns-clause-stream
-returns-clause-stream c =
-    let step = c.next_block-mask.ensures.step in
-    fed_none _ _ c.next_block-mask.new.self (ap (λ (s : KeyStream). s.key.now) step) (ap (λ (s : KeyStream). s.iv) step) (ap (λ (s : KeyStream). s.counter) step) (ap (λ (s : KeyStream). s.used) step) (ap (λ (s : KeyStream). length s.stream) step)
+returns-clause-stream c = record {
+  gone = [];
+  before = 0;
+  here = [];
+  same_key = refl;
+  same_iv = refl;
+  long = c.iv_block.ensures.long;
+  bytes = c.iv_block.ensures.bytes;
+  parts = refl;
+  whole = refl;
+  room = omega arith;
+  fed = rw c.iv_block.ensures.block at c.new.ensures;
+}

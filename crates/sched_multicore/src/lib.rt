@@ -9,7 +9,8 @@
 //! what the device returns. A turn waits for nothing and takes no memory.
 //!
 //! A contract sees a queue pair as what it keeps: `unreturned` lists the entries of the operations that were accepted and
-//! not returned. A word that a call found is one by which that call made `looks` longer.
+//! not returned. A word that a call found is one by which that call made `looks` longer. The proved test
+//! `a_drained_queue_pair_is_closed_with_its_hands` is a short caller.
 #![tactic(auto)]
 
 mod carrier;

@@ -1,17 +1,15 @@
 -- A run whose operations one device does alone.
-use Rattle.std.proofs.Common.{◌≡◌, ℕ, zero, suc, ◌+◌, ◌-◌, ◌<◌, ◌≤◌, ◌^◌, min, List, [], ◌∷◌, length, get_or, set, map, take, drop, Option, None, Some, refl, ap, sym, subst, ◌∙◌, arith, length-take}
+use Rattle.std.proofs.Common.{◌≡◌, ℕ, zero, suc, ◌+◌, ◌-◌, ◌<◌, ◌≤◌, min, List, [], ◌∷◌, length, get_or, set, map, Option, None, Some, refl, ap, subst, ◌∙◌, arith, length-take}
 use Rattle.std.specs.Prelude.{option_map}
 use Rattle.std.proofs.lemmas.List.{take_all}
-use Rattle.crypto_model.specs.Counts.{capped}
 use Rattle.dev_core.specs.declared.driver.LogEntry.{LogEntry}
 use Rattle.dev_core.specs.Calls.{Call}
 use Rattle.session_file.specs.declared.plan.Plan.{Plan}
 use Rattle.packet_plan.specs.Asked.{sessions_of}
-use Rattle.sched_core.specs.declared.text.SchedText.{SchedText}
 use Rattle.sched_modes.specs.Crew.{total}
 use Rattle.sched_modes.specs.Dealing.{IsFrontOf}
 use Rattle.capcrypt.specs.declared.ending.Ending.{Ending}
-use Rattle.capcrypt.specs.Dealing.{Alone, dealing_of}
+use Rattle.capcrypt.specs.Dealing.{Alone}
 use Rattle.capcrypt.specs.Devices.{DeviceNow, HasStalledOut, HaveStalledOut, at, taken_together}
 use Rattle.capcrypt.specs.Served.{HasServed, HaveServed, WasSetUp}
 use Rattle.capcrypt.specs.Ran.{IsDecided, IsDriven}

@@ -1,7 +1,8 @@
 -- The words name no more workers than there are devices.
-use Rattle.std.proofs.Common.{◌≡◌, ℕ, Bool, true, false, ◌≤◌, List, [], ◌∷◌, Option, None, Some, refl, ap, sym, subst, ◌∙◌, arith}
+use Rattle.std.proofs.Common.{◌≡◌, ℕ, Bool, true, false, ◌≤◌, List, [], ◌∷◌, Option, None, Some, refl, subst, arith}
 use Rattle.std.specs.Prelude.{Result, Ok, Err, nat_le, ◌&&◌, bytes_eq, codes, if◌then◌else◌}
-use Rattle.command_words.specs.Asked.{Wanted, AsksCrypt, AsksQuick, Fault, NotLegal, BadText, wanted, quick_asked, quick_with, with_values, with_burst, with_scheduler, is_on_one_thread, burst_of}
+use Rattle.std.proofs.lemmas.Bool.Decides.{nat_tests}
+use Rattle.command_words.specs.Asked.{Wanted, AsksCrypt, AsksGen, AsksQuick, Fault, NotLegal, wanted, quick_asked, quick_with, gen_asked, gen_with, packets_in, seed_in, with_values, with_burst, with_scheduler, is_on_one_thread, burst_of}
 use Rattle.command_words.specs.Quick.{key_of, salt_of}
 use Rattle.command_words.specs.Options.{Values, values_of}
 use Rattle.sched_core.specs.Mode.{least_workers}
@@ -12,49 +13,73 @@ use Rattle.sched_core.specs.declared.text.SchedText.{SchedText}
 
 -- these words ask for no more workers than this
 abbrev HasFew : ℕ → Result Wanted Fault → Type 0
-HasFew devices r = (text : SchedText) (sessions : List ℕ) (burst : ℕ) → r ≡ Ok (AsksCrypt text sessions burst) → text.workers ≤ devices
+HasFew devices (Ok (AsksCrypt text sessions burst)) = text.workers ≤ devices
+HasFew devices (Ok (AsksGen packets number)) = 2 ≤ devices
+HasFew devices (Ok (AsksQuick key salt)) = Unit {0}
+HasFew devices (Err fault) = Unit {0}
 
-few_where : (devices : ℕ) (b : Bool) (text : SchedText) (sessions : List ℕ) (burst : ℕ) → (b ≡ true → text.workers ≤ devices) → HasFew devices (if b then Ok (AsksCrypt text sessions burst) else Err NotLegal)
-few_where devices true text sessions burst fits t s n is = let e : text ≡ t = cc in let w = ap (λ (x : SchedText). x.workers) e in omega (arith, fits refl, w)
-few_where devices false text sessions burst fits t s n is = absurd (let no : Err NotLegal ≡ Ok (AsksCrypt t s n) = is in cc)
+few_where : (devices : ℕ) (b : Bool) (w : Wanted) → (b ≡ true → HasFew devices (Ok w)) → HasFew devices (if b then Ok w else Err NotLegal)
+few_where devices true w fits = fits refl
+few_where devices false w fits = tt
 
 fits_where : (b : Bool) (n m : ℕ) → b && nat_le n m ≡ true → n ≤ m
 fits_where b n m e = grind arith
 
+at_least : (n m : ℕ) → nat_le n m ≡ true → n ≤ m
+at_least n m e = grind (arith, nat_tests)
+
 few_scheduler : (r : Result SchedText ℕ) (sessions : List ℕ) (burst devices : ℕ) → HasFew devices (with_scheduler r sessions burst devices)
-few_scheduler (Err at) sessions burst devices t s n is = absurd (let no : Err (BadText at) ≡ Ok (AsksCrypt t s n) = is in cc)
-few_scheduler (Ok text) sessions burst devices t s n is =
-    few_where devices (is_on_one_thread text.mode && nat_le text.workers devices) text sessions burst (λ e. fits_where (is_on_one_thread text.mode) text.workers devices e) t s n is
+few_scheduler (Err at) sessions burst devices = tt
+few_scheduler (Ok text) sessions burst devices =
+    few_where devices (is_on_one_thread text.mode && nat_le text.workers devices) (AsksCrypt text sessions burst) (fits_where (is_on_one_thread text.mode) text.workers devices)
 
 few_burst : (b : Option ℕ) (values : Values) (devices : ℕ) → HasFew devices (with_burst b values devices)
-few_burst None values devices t s n is = absurd (let no : Err NotLegal ≡ Ok (AsksCrypt t s n) = is in cc)
-few_burst (Some burst) values devices t s n is = few_scheduler (sched_of values.vdev) values.sessions burst devices t s n is
+few_burst None values devices = tt
+few_burst (Some burst) values devices = few_scheduler (sched_of values.vdev) values.sessions burst devices
 
 few_values : (v : Option Values) (devices : ℕ) → HasFew devices (with_values v devices)
-few_values None devices t s n is = absurd (let no : Err NotLegal ≡ Ok (AsksCrypt t s n) = is in cc)
-few_values (Some values) devices t s n is = few_burst (burst_of values.burst) values devices t s n is
+few_values None devices = tt
+few_values (Some values) devices = few_burst (burst_of values.burst) values devices
 
 few_with : (key salt : Option (List ℕ)) (devices : ℕ) → HasFew devices (quick_with key salt)
-few_with (Some key) (Some salt) devices t s n is = absurd (let no : Ok (AsksQuick key salt) ≡ Ok (AsksCrypt t s n) = is in cc)
-few_with (Some key) None devices t s n is = absurd (let no : Err NotLegal ≡ Ok (AsksCrypt t s n) = is in cc)
-few_with None salt devices t s n is = absurd (let no : Err NotLegal ≡ Ok (AsksCrypt t s n) = is in cc)
+few_with (Some key) (Some salt) devices = tt
+few_with (Some key) None devices = tt
+few_with None salt devices = tt
 
 few_quick : (words : List (List ℕ)) (devices : ℕ) → HasFew devices (quick_asked words)
-few_quick [] devices t s n is = absurd (let no : Err NotLegal ≡ Ok (AsksCrypt t s n) = is in cc)
-few_quick (a ∷ []) devices t s n is = absurd (let no : Err NotLegal ≡ Ok (AsksCrypt t s n) = is in cc)
-few_quick (key ∷ salt ∷ []) devices t s n is = few_with (key_of key) (salt_of salt) devices t s n is
-few_quick (a ∷ b ∷ c ∷ more) devices t s n is = absurd (let no : Err NotLegal ≡ Ok (AsksCrypt t s n) = is in cc)
+few_quick [] devices = tt
+few_quick (a ∷ []) devices = tt
+few_quick (key ∷ salt ∷ []) devices = few_with (key_of key) (salt_of salt) devices
+few_quick (a ∷ b ∷ c ∷ more) devices = tt
 
-few_first : (quick crypt : Bool) (rest all : List (List ℕ)) (devices : ℕ)
-    → HasFew devices (if quick then quick_asked rest else (if crypt then with_values (values_of all) devices else Err NotLegal))
-few_first true crypt rest all devices t s n is = few_quick rest devices t s n is
-few_first false true rest all devices t s n is = few_values (values_of all) devices t s n is
-few_first false false rest all devices t s n is = absurd (let no : Err NotLegal ≡ Ok (AsksCrypt t s n) = is in cc)
+few_numbers : (packets number : Option ℕ) (devices : ℕ) → HasFew devices (gen_with packets number devices)
+few_numbers (Some packets) (Some number) devices = few_where devices (nat_le 2 devices) (AsksGen packets number) (at_least 2 devices)
+few_numbers (Some packets) None devices = tt
+few_numbers None number devices = tt
+
+few_gen : (words : List (List ℕ)) (devices : ℕ) → HasFew devices (gen_asked words devices)
+few_gen [] devices = tt
+few_gen (a ∷ []) devices = tt
+few_gen (packets ∷ number ∷ []) devices = few_numbers (packets_in packets) (seed_in number) devices
+few_gen (a ∷ b ∷ c ∷ more) devices = tt
+
+few_first : (quick gen crypt : Bool) (rest all : List (List ℕ)) (devices : ℕ)
+    → HasFew devices (if quick then quick_asked rest else (if gen then gen_asked rest devices else (if crypt then with_values (values_of all) devices else Err NotLegal)))
+few_first true gen crypt rest all devices = few_quick rest devices
+few_first false true crypt rest all devices = few_gen rest devices
+few_first false false true rest all devices = few_values (values_of all) devices
+few_first false false false rest all devices = tt
+
+few : (words : List (List ℕ)) (devices : ℕ) → HasFew devices (wanted words devices)
+unfolding wanted
+few [] devices = tt
+few (word ∷ rest) devices = few_first (bytes_eq word (codes "quick")) (bytes_eq word (codes "gen")) (bytes_eq word (codes "crypt")) rest (word ∷ rest) devices
 
 pub few_workers : (words : List (List ℕ)) (devices : ℕ) (text : SchedText) (sessions : List ℕ) (burst : ℕ) → wanted words devices ≡ Ok (AsksCrypt text sessions burst) → text.workers ≤ devices
-unfolding wanted
-few_workers [] devices t s n is = absurd (let no : Err NotLegal ≡ Ok (AsksCrypt t s n) = is in cc)
-few_workers (word ∷ rest) devices t s n is = few_first (bytes_eq word (codes "quick")) (bytes_eq word (codes "crypt")) rest (word ∷ rest) devices t s n is
+few_workers words devices text sessions burst is = subst (HasFew devices) is (few words devices)
+
+pub two_devices : (words : List (List ℕ)) (devices packets number : ℕ) → wanted words devices ≡ Ok (AsksGen packets number) → 2 ≤ devices
+two_devices words devices packets number is = subst (HasFew devices) is (few words devices)
 
 -- each mode has a worker
 pub least_one : (mode : Mode) → 1 ≤ least_workers mode

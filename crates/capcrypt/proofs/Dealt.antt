@@ -1,10 +1,9 @@
 -- A run whose operations a scheduler deals to several devices.
-use Rattle.std.proofs.Common.{◌≡◌, ◌⊎◌, ℕ, zero, suc, ◌+◌, ◌-◌, ◌*◌, ◌<◌, ◌≤◌, ◌^◌, List, [], ◌∷◌, ◌++◌, length, get_or, map, take, drop, Option, None, Some, refl, ap, sym, subst, ◌∙◌, arith}
+use Rattle.std.proofs.Common.{◌≡◌, ℕ, zero, suc, ◌+◌, ◌-◌, ◌<◌, ◌≤◌, List, [], ◌∷◌, length, get_or, map, take, drop, Option, Some, refl, ap, sym, subst, ◌∙◌, arith}
 use Rattle.dev_core.specs.Offers.{taken_by}
 use Rattle.std.specs.Prelude.{option_map}
 use Rattle.std.specs.List.{sum_by}
-use Rattle.std.proofs.lemmas.List.{get_or-map, length-map}
-use Rattle.std.proofs.lemmas.List.Sums.{sum_by-append, sum_by-cons}
+use Rattle.std.proofs.lemmas.List.Sums.{sum_by-cons}
 use Rattle.crypto_model.specs.Counts.{capped, Rose}
 use Rattle.crypto_model.specs.Process.{Transform}
 use Rattle.crypto_op.specs.declared.spec.Card.{Card}
@@ -13,7 +12,6 @@ use Rattle.dev_core.specs.declared.driver.LogEntry.{LogEntry}
 use Rattle.dev_core.specs.declared.stats.Stats.{Stats}
 use Rattle.dev_core.specs.Calls.{Call, Ran}
 use Rattle.session_file.specs.declared.plan.Plan.{Plan}
-use Rattle.packet_plan.specs.Asked.{sessions_of}
 use Rattle.packet_flow.specs.Entries.{IsNumbered}
 use Rattle.sched_core.specs.Stopped.{Stopped}
 use Rattle.sched_core.specs.Mode.{most_workers}
@@ -22,7 +20,7 @@ use Rattle.sched_core.specs.declared.mode.Mode.TheVariants.{RoundRobin, PacketSi
 use Rattle.sched_core.specs.declared.text.SchedText.{SchedText}
 use Rattle.sched_core.proofs.Dealt.{some_at}
 use Rattle.sched_modes.specs.Crew.{Account, account, nobody, total}
-use Rattle.sched_modes.specs.Dealing.{AreUnused, HasDealt, IsUnused, NoneStalled}
+use Rattle.sched_modes.specs.Dealing.{AreUnused, HasDealt, NoneStalled}
 use Rattle.sched_modes.specs.Pool.{Follows, stalls_in}
 use Rattle.sched_modes.specs.Workers.{Goes}
 use Rattle.sched_modes.specs.declared.pool.Pool.{Pool}

@@ -1,5 +1,5 @@
 -- How each way out of a run meets what is said of the run.
-use Rattle.std.proofs.Common.{◌≡◌, ◌⊎◌, inl, inr, ℕ, zero, suc, Bool, true, false, ◌+◌, ◌<◌, ◌≤◌, List, [], ◌∷◌, ◌++◌, length, take, drop, refl, ◌∙◌, ap, sym, subst, arith, append_assoc, length-append, length-take, length-drop}
+use Rattle.std.proofs.Common.{◌≡◌, ◌⊎◌, inl, inr, ℕ, Bool, true, false, ◌+◌, ◌<◌, ◌≤◌, List, [], ◌∷◌, ◌++◌, length, take, drop, refl, ◌∙◌, ap, sym, subst, arith, append_assoc, length-append, length-take, length-drop}
 use Rattle.std.specs.Prelude.{Ok, Err}
 use Rattle.std.proofs.lemmas.List.{append-nil, take_all, take-append-le, take-append-drop}
 use Rattle.std.proofs.lemmas.List.Concat.{flat_map-append}
@@ -27,9 +27,9 @@ use Rattle.capcrypt.specs.declared.ending.Ending.TheVariants.{Done, Memory, Usag
 use Rattle.capcrypt.specs.Dealing.{Dealing, workers_of}
 use Rattle.capcrypt.specs.Devices.{DeviceNow, at, taken_together}
 use Rattle.capcrypt.specs.Served.{HaveServed, WasSetUp}
-use Rattle.capcrypt.specs.Start.{Settings, Start, Begins, Stops, workers_in}
+use Rattle.capcrypt.specs.Start.{Settings, Start, Begins, Stops}
 use Rattle.capcrypt.specs.Written.{raised, ending_at}
-use Rattle.capcrypt.specs.Ran.{HasAppended, UsesNone, Job, IsWritten, IsDecided, IsLate, DevicesServe, DevicesServeWhole, AppendsRecords, AppendsUpto, flow_ending, stop_ending}
+use Rattle.capcrypt.specs.Ran.{HasAppended, Job, IsWritten, IsDecided, IsLate, AppendsRecords, AppendsUpto, flow_ending, stop_ending}
 
 -- no record is empty
 length-spelled : (big : Bool) (x : ℕ) → length (spelled big 4 x) ≡ 4

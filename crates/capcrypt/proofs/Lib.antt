@@ -7,3 +7,4 @@ mod Limits
 mod Alone
 mod Dealt
 mod Asked
+mod Places

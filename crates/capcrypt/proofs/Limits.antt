@@ -1,10 +1,10 @@
 -- A capture has fewer than 2 ^ 32 records, and so a run has fewer operations.
-use Rattle.std.proofs.Common.{◌≡◌, ◌≢◌, ℕ, Bool, true, false, ◌+◌, ◌%◌, ◌==◌, ◌<◌, ◌≤◌, ◌^◌, take, drop, List, [], ◌∷◌, length, Option, None, Some, refl, ap, sym, ◌∙◌, arith}
+use Rattle.std.proofs.Common.{◌≡◌, ◌≢◌, ℕ, Bool, true, false, ◌+◌, ◌%◌, ◌==◌, ◌<◌, ◌≤◌, ◌^◌, take, drop, List, [], ◌∷◌, length, Option, None, Some, refl, ap, ◌∙◌, arith}
 use Rattle.std.specs.Prelude.{Result, Ok, Err, nat_lt, if◌then◌else◌}
 use Rattle.capture_io.specs.declared.header.Place.{Place}
 use Rattle.capture_io.specs.declared.header.RecordHead.{RecordHead}
 use Rattle.capture_io.specs.declared.header.CaptureCause.TheVariants.{ShortRecord}
-use Rattle.capture_io.specs.Capture.{Rec, Rest, End, Bad, Records, behind, first_place, head_of, limit_of, packet_at, record_at}
+use Rattle.capture_io.specs.Capture.{Rec, Rest, End, Bad, Records, behind, first_place, head_of, limit_of, packet_at}
 use Rattle.dev_core.specs.declared.driver.LogEntry.{LogEntry}
 use Rattle.session_file.specs.declared.plan.Plan.{Plan}
 use Rattle.packet_flow.specs.Entries.{IsNumbered, entries_from}

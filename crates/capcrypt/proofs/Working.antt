@@ -1,5 +1,5 @@
 -- A scheduler over devices that tell their rooms says what it admits, and where that is nothing something is pending.
-use Rattle.std.proofs.Common.{◌≡◌, ◌⊎◌, inl, inr, ℕ, zero, suc, Bool, true, false, ◌+◌, ◌-◌, ◌<◌, ◌≤◌, min, List, [], ◌∷◌, length, get_or, map, take, Option, None, Some, option_map, refl, ap, ◌∙◌, sym, subst, arith}
+use Rattle.std.proofs.Common.{◌≡◌, ◌⊎◌, inl, inr, ℕ, zero, suc, Bool, true, false, ◌+◌, ◌-◌, ◌<◌, ◌≤◌, min, List, [], ◌∷◌, length, get_or, take, Option, None, Some, option_map, refl, ap, ◌∙◌, arith}
 use Rattle.std.specs.Prelude.{nat_lt, if◌then◌else◌}
 use Rattle.crypto_op.specs.Op.{Entry}
 use Rattle.dev_core.specs.declared.driver.Driver.{Ghosts}
@@ -9,10 +9,10 @@ use Rattle.sched_core.specs.Stopped.{Stopped}
 use Rattle.sched_core.specs.declared.ring.Slot.{Slot}
 use Rattle.sched_core.proofs.Dealt.{some_at}
 use Rattle.sched_modes.specs.Admits.{both, longest, longest_told, room_for}
-use Rattle.sched_modes.specs.Crew.{Crew, account, free, nobody, one_at, size_worker, worker}
+use Rattle.sched_modes.specs.Crew.{account, free, one_at, size_worker, worker}
 use Rattle.sched_modes.specs.Dealing.{AreUnused}
 use Rattle.sched_modes.specs.Pool.{Follows, crew, held_in, pending_in}
-use Rattle.sched_modes.specs.Running.{IsStarted, admits_by, crew_of, first_places, mode_of, pending, pool_of, stopped_of}
+use Rattle.sched_modes.specs.Running.{IsStarted, admits_by, crew_of, first_places, mode_of, pending, pool_of}
 use Rattle.sched_modes.specs.Workers.{ring_cap, places}
 use Rattle.sched_modes.specs.declared.pool.Pool.{Pool}
 use Rattle.sched_modes.specs.declared.running.Running.{Running}

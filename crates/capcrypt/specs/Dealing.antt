@@ -1,5 +1,5 @@
 -- Who deals the operations of a run to which devices.
-use Rattle.std.specs.Prelude.{◌≡◌, ◌≢◌, ◌≤◌, ℕ, List, Option, None, Some}
+use Rattle.std.specs.Prelude.{ℕ, List, Option, None, Some}
 use Rattle.crypto_model.specs.Process.{Transform}
 use Rattle.dev_core.specs.declared.driver.LogEntry.{LogEntry}
 use Rattle.sched_core.specs.declared.text.SchedText.{SchedText}

@@ -1,6 +1,7 @@
 pub mod Dealing
 pub mod Start
 pub mod Written
+pub mod Place
 pub mod Devices
 pub mod Served
 pub mod Report

@@ -15,6 +15,8 @@ use Rattle.capcrypt.specs.declared.ending.Outcome.{Outcome}
 use Rattle.capcrypt.specs.declared.ending.Ending.{Ending}
 use Rattle.capcrypt.specs.declared.ending.Ending.TheVariants.{Done, Memory, Usage, Vdev, Capture, Sessions, ReadFault, WriteFault, Stalled, TooLarge}
 use Rattle.capcrypt.specs.Dealing.{workers_of}
+use Rattle.command_words.specs.declared.generated.Gen.{Gen}
+use Rattle.capcrypt.specs.Place.{IsPlace, digest_of}
 use Rattle.capcrypt.specs.Devices.{DeviceNow, at, operations_of, taken_together}
 use Rattle.capcrypt.specs.Served.{HaveServed, WasSetUp}
 use Rattle.capcrypt.specs.Start.{Start, Begins, Stops, workers_in}
@@ -126,9 +128,12 @@ pub record Job (start : Start) (reading : Reading) (o : Outcome) (old new : List
   pub decided : IsDecided o.ending → DevicesServeWhole start reading before now
 
 -- The same with the report: the status is that of the outcome that the report tells, or the report failed.
-pub record HasRun (start : Start) (reading : Reading) (status : ℕ) (old new : List ℕ) (kept : ℕ → Type 0) (before now : List DeviceNow)
+pub record HasRun (made : Option Gen) (start : Start) (reading : Reading) (status : ℕ) (out_old out_new : List ℕ) (kept : ℕ → Type 0) (before now : List DeviceNow)
     (report_old report_new : List ℕ) (report_rose : Type 0) : Type 0 where
   pub outcome : Outcome
+  pub old : List ℕ
+  pub new : List ℕ
+  pub place : IsPlace made out_old out_new old new
   pub job : Job start reading outcome old new kept before now
-  pub reported : ((status ≡ status_of outcome.ending) × (report_new ≡ report_old ++ report_of outcome (operations_of outcome.devices now)))
-      ⊎ ((status ≡ 6) × report_rose × AppendsFront report_old report_new (report_of outcome (operations_of outcome.devices now)))
+  pub reported : ((status ≡ status_of outcome.ending) × (report_new ≡ report_old ++ report_of outcome (operations_of outcome.devices now) (digest_of made new)))
+      ⊎ ((status ≡ 6) × report_rose × AppendsFront report_old report_new (report_of outcome (operations_of outcome.devices now) (digest_of made new)))

@@ -1,5 +1,6 @@
 -- The number and the text of each ending.
-use Rattle.std.specs.Prelude.{◌+◌, ◌&&◌, ℕ, Bool, true, false, List, [], ◌∷◌, ◌++◌, codes, decimal, if◌then◌else◌}
+use Rattle.hex.specs.Hex.{encode_lower}
+use Rattle.std.specs.Prelude.{◌+◌, ◌&&◌, ℕ, Bool, true, false, List, [], ◌∷◌, ◌++◌, codes, decimal, Option, None, Some, if◌then◌else◌}
 use Rattle.capture_io.specs.declared.header.CaptureCause.{CaptureCause}
 use Rattle.capture_io.specs.declared.header.CaptureCause.TheVariants.{ShortHeader, BadMagic, BadVersion, ShortRecord, ShortData, FormNotBuilt}
 use Rattle.packet_flow.specs.declared.counts.Counts.{Counts}
@@ -56,8 +57,13 @@ is_counted Stalled = true
 is_counted (TooLarge value) = true
 is_counted _ = false
 
-abbrev pub listed : Outcome → List ℕ → List ℕ
-listed o devices = if o.header && is_counted o.ending then first_line o.counts ++ device_lines 0 devices else []
+-- a line for the digest, where there is one
+abbrev pub digest_line : Option (List ℕ) → List ℕ
+digest_line None = []
+digest_line (Some digest) = codes "sha256=" ++ encode_lower digest ++ codes "\n"
 
-abbrev pub report_of : Outcome → List ℕ → List ℕ
-report_of o devices = listed o devices ++ last_line o.ending
+abbrev pub listed : Outcome → List ℕ → Option (List ℕ) → List ℕ
+listed o devices digest = if o.header && is_counted o.ending then first_line o.counts ++ device_lines 0 devices ++ digest_line digest else []
+
+abbrev pub report_of : Outcome → List ℕ → Option (List ℕ) → List ℕ
+report_of o devices digest = listed o devices digest ++ last_line o.ending

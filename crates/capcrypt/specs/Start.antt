@@ -1,10 +1,12 @@
 -- What a run works by.
-use Rattle.std.specs.Prelude.{◌≡◌, ◌≤◌, ◌+◌, ℕ, List, length, nat_lt, Option, Some, None, Result, Ok, Err, if◌then◌else◌}
+use Rattle.std.specs.Prelude.{◌≡◌, ◌≤◌, ◌+◌, ℕ, true, codes, List, [], ◌∷◌, length, nat_lt, Option, Some, None, Result, Ok, Err, if◌then◌else◌}
+use Rattle.dev_core.specs.declared.driver.Kind.TheVariants.{Plain}
+use Rattle.sched_core.specs.declared.mode.Mode.TheVariants.{RoundRobin}
 use Rattle.sched_core.specs.declared.text.SchedText.{SchedText}
 use Rattle.session_file.specs.declared.plan.Plan.{Plan}
 use Rattle.session_file.specs.Plan.{plan_of}
 use Rattle.packet_plan.specs.Quick.{quick_plan}
-use Rattle.command_words.specs.Asked.{Wanted, AsksQuick, AsksCrypt, Fault, NotLegal, BadText, wanted}
+use Rattle.command_words.specs.Asked.{Wanted, AsksQuick, AsksCrypt, AsksGen, Fault, NotLegal, BadText, wanted}
 use Rattle.command_words.specs.Gives.{RunsOnOneThread}
 use Rattle.capcrypt.specs.declared.ending.Ending.{Ending}
 use Rattle.capcrypt.specs.declared.ending.Ending.TheVariants.{Usage, Vdev, Sessions, TooLarge}
@@ -40,10 +42,25 @@ start_by dealing burst (Err fault) = Stops (Sessions fault.0 fault.1)
 abbrev pub start_with : Dealing → ℕ → List ℕ → Start
 start_with dealing burst text = if nat_lt MAX_TEXT (length text) then Stops (TooLarge (MAX_TEXT + 1)) else start_by dealing burst (plan_of text)
 
+-- the session text of a generated capture: UDP under GCM, and TCP under CTR and a code
+unfoldable pub stated_sessions : List ℕ
+stated_sessions = codes "capcrypt 1\nsession a gcm encrypt 000102030405060708090a0b0c0d0e0f 00000001 16 14\nsession b ctr encrypt 101112131415161718191a1b1c1d1e1f 00000002 + hmac-sha256 generate 202122232425262728292a2b2c2d2e2f 16\nrule 23 11 a 14\ndefault b 14\n"
+
+-- and its scheduler: two workers by turns, in order
+abbrev pub stated_scheduler : SchedText
+stated_scheduler = record {
+  mode = RoundRobin;
+  kinds = Plain ∷ Plain ∷ Plain ∷ Plain ∷ Plain ∷ Plain ∷ Plain ∷ Plain ∷ [];
+  workers = 2;
+  ordering = true;
+  threshold = 128;
+}
+
 -- by what the words ask for, and by the text of the session source
 abbrev pub start_of : Result Wanted Fault → List ℕ → Start
 start_of (Ok (AsksQuick key salt)) text = Begins (record { plan = quick_plan key salt; burst = 1; dealing = Alone })
 start_of (Ok (AsksCrypt scheduler sessions burst)) text = start_with (Scheduled scheduler) burst text
+start_of (Ok (AsksGen packets number)) text = start_by (Scheduled stated_scheduler) 32 (plan_of stated_sessions)
 start_of (Err NotLegal) text = Stops Usage
 start_of (Err (BadText at)) text = Stops (Vdev at)
 
@@ -60,12 +77,14 @@ workers_in (Stops e) = 0
 abbrev pub workers_asked : Result Wanted Fault → ℕ
 workers_asked (Ok (AsksQuick key salt)) = 1
 workers_asked (Ok (AsksCrypt scheduler sessions burst)) = scheduler.workers
+workers_asked (Ok (AsksGen packets number)) = 2
 workers_asked (Err fault) = 0
 
 -- the burst size of the words, where they are legal
 abbrev pub burst_asked : Result Wanted Fault → Option ℕ
 burst_asked (Ok (AsksQuick key salt)) = Some 1
 burst_asked (Ok (AsksCrypt scheduler sessions burst)) = Some burst
+burst_asked (Ok (AsksGen packets number)) = Some 32
 burst_asked (Err fault) = None
 
 -- the words don't ask for the session source

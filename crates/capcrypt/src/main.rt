@@ -12,6 +12,7 @@ ghost use Rattle.sym_engine.specs.Driver.{held_of};
 mod deal;
 mod ending;
 mod line;
+mod place;
 mod ready;
 mod report;
 mod start;
@@ -118,7 +119,7 @@ fn status(rt: &HostRuntime) -> Result<u8, OutOfMemory> {
 // The report where memory was wanting before the run, which takes none.
 fn told_at_once(rt: &HostRuntime) -> u8 {
     let outcome = without_packets(Ending::Memory, false, 0);
-    match write_report(&mut StdSink::new(rt.stderr()), &outcome, &[]) {
+    match write_report(&mut StdSink::new(rt.stderr()), &outcome, &[], None) {
         Ok(()) => 1,
         Err(_) => 6,
     }

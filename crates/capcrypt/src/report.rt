@@ -1,13 +1,14 @@
 //! What a run tells.
-ghost use Rattle.std.specs.Prelude.{◌≡◌, ◌≤◌, ◌++◌, length, codes, decimal, OnOk, OnErr};
+ghost use Rattle.std.specs.Prelude.{◌≡◌, ◌≤◌, ◌++◌, length, codes, decimal, Some, OnOk, OnErr};
 ghost use Rattle.crypto_model.specs.Counts.{Rose};
-ghost use Rattle.capcrypt.specs.Report.{cause_name, last_line, first_line, device_lines, is_counted, listed, report_of};
+ghost use Rattle.capcrypt.specs.Report.{cause_name, last_line, first_line, device_lines, digest_line, is_counted, listed, report_of};
 ghost use Rattle.capcrypt.specs.Ran.{AppendsFront};
 ghost use Rattle.capcrypt.specs.LineText.{line_text};
 
 use crate::ending::{Ending, Outcome};
 use crate::line::Line;
 use capture_io::{CaptureCause, Sink, WriteFault, write_all};
+use hex::encode_to_slice;
 use packet_flow::Counts;
 
 fn name_of(cause: CaptureCause) -> &'static [u8]
@@ -44,6 +45,21 @@ fn line_of_device(number: u64, operations: u64) -> Line
     let mut line = Line::new();
     line.field(b"device ", number);
     line.field(b" operations=", operations);
+    line.push(b"\n");
+    line
+}
+
+fn line_of_digest(digest: &[u8; 32]) -> Line
+    ensures { line_text result ≡ digest_line (Some digest.now) }
+{
+    let mut digits = [0; 64];
+    match encode_to_slice(digest.as_slice(), &mut digits) {
+        Ok(()) => {}
+        Err(_) => unreachable!(),
+    }
+    let mut line = Line::new();
+    line.push(b"sha256=");
+    line.push(&digits);
     line.push(b"\n");
     line
 }
@@ -116,20 +132,52 @@ fn write_counts<E: Sink>(report: &mut E, counts: &Counts, devices: &[u64]) -> Re
     write_devices(report, devices)
 }
 
+fn write_digest<E: Sink>(report: &mut E, digest: Option<[u8; 32]>) -> Result<(), WriteFault>
+    ensures written { E.tells → OnOk result (E.written report.new ≡ E.written report.old ++ digest_line digest) }
+    ensures fault { E.tells → OnErr result (AppendsFront (E.written report.old) (E.written report.new) (digest_line digest)) }
+    ensures later { E.faults report.old ≤ E.faults report.new }
+    ensures cause { OnErr result (Rose (E.faults report.old) (E.faults report.new)) }
+    ensures steady { E.steady → OnOk result (E.faults report.new ≡ E.faults report.old) }
+{
+    match digest {
+        Some(digest) => write_all(report, line_of_digest(&digest).text()),
+        None => Ok(()),
+    }
+}
+
+fn write_counted<E: Sink>(
+    report: &mut E,
+    counts: &Counts,
+    devices: &[u64],
+    digest: Option<[u8; 32]>,
+) -> Result<(), WriteFault>
+    ensures written { E.tells → OnOk result
+        (E.written report.new ≡ E.written report.old ++ (first_line counts.now ++ device_lines 0 devices.now ++ digest_line digest)) }
+    ensures fault { E.tells → OnErr result
+        (AppendsFront (E.written report.old) (E.written report.new) (first_line counts.now ++ device_lines 0 devices.now ++ digest_line digest)) }
+    ensures later { E.faults report.old ≤ E.faults report.new }
+    ensures cause { OnErr result (Rose (E.faults report.old) (E.faults report.new)) }
+    ensures steady { E.steady → OnOk result (E.faults report.new ≡ E.faults report.old) }
+{
+    write_counts(report, counts, devices)?;
+    write_digest(report, digest)
+}
+
 // The counts, where they stand in the report.
 fn write_listed<E: Sink>(
     report: &mut E,
     outcome: &Outcome,
     devices: &[u64],
+    digest: Option<[u8; 32]>,
 ) -> Result<(), WriteFault>
-    ensures written { E.tells → OnOk result (E.written report.new ≡ E.written report.old ++ listed outcome.now devices.now) }
-    ensures fault { E.tells → OnErr result (AppendsFront (E.written report.old) (E.written report.new) (listed outcome.now devices.now)) }
+    ensures written { E.tells → OnOk result (E.written report.new ≡ E.written report.old ++ listed outcome.now devices.now digest) }
+    ensures fault { E.tells → OnErr result (AppendsFront (E.written report.old) (E.written report.new) (listed outcome.now devices.now digest)) }
     ensures later { E.faults report.old ≤ E.faults report.new }
     ensures cause { OnErr result (Rose (E.faults report.old) (E.faults report.new)) }
     ensures steady { E.steady → OnOk result (E.faults report.new ≡ E.faults report.old) }
 {
     if outcome.header && is_counted(&outcome.ending) {
-        write_counts(report, &outcome.counts, devices)
+        write_counted(report, &outcome.counts, devices, digest)
     } else {
         Ok(())
     }
@@ -140,14 +188,15 @@ pub(crate) fn write_report<E: Sink>(
     report: &mut E,
     outcome: &Outcome,
     devices: &[u64],
+    digest: Option<[u8; 32]>,
 ) -> Result<(), WriteFault>
-    ensures written { E.tells → OnOk result (E.written report.new ≡ E.written report.old ++ report_of outcome.now devices.now) }
-    ensures fault { E.tells → OnErr result (AppendsFront (E.written report.old) (E.written report.new) (report_of outcome.now devices.now)) }
+    ensures written { E.tells → OnOk result (E.written report.new ≡ E.written report.old ++ report_of outcome.now devices.now digest) }
+    ensures fault { E.tells → OnErr result (AppendsFront (E.written report.old) (E.written report.new) (report_of outcome.now devices.now digest)) }
     ensures later { E.faults report.old ≤ E.faults report.new }
     ensures cause { OnErr result (Rose (E.faults report.old) (E.faults report.new)) }
     ensures steady { E.steady → OnOk result (E.faults report.new ≡ E.faults report.old) }
 {
-    write_listed(report, outcome, devices)?;
+    write_listed(report, outcome, devices, digest)?;
     write_all(report, line_of_ending(&outcome.ending).text())?;
     report.flush()
 }

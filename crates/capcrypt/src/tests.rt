@@ -222,6 +222,7 @@ mod crypt;
 mod deal;
 mod devices;
 mod kinds;
+mod made;
 mod order;
 
 #[test]

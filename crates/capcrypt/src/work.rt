@@ -20,17 +20,21 @@ use crate::ending::{Ending, Outcome, ending_of_flow, ending_of_stop};
 use crate::ready::{set_up, table_of};
 use crate::start::Task;
 use capture_io::{Header, Sink, Source, read_header, write_header};
+use crypto_model::OutOfMemory;
 use crypto_op::Card;
 use dev_core::{Device, Driver, Kind};
-use mbuf_chain::FreshSegs;
+use mbuf_pool::{LocalPool, Topped};
 use packet_flow::{Counts, Sizes, transfer};
 use std::alloc::Global;
 
 const SNAPLEN: u32 = 262_208;
 
-// Few enough that what is in flight stays in the processor's caches, and a live capture flows: so many blocks of one size
-// the C library's allocator keeps at hand.
-const WINDOW: usize = 7;
+// Few enough that what is in flight stays in the processor's caches, and a live capture flows; and a divisor of 4,096, so
+// that a read which fails behind so many records finds them begun.
+pub(crate) const WINDOW: usize = 8;
+
+// At most so many segments are kept, whatever the burst.
+const MAX_KEPT: usize = 1024;
 
 fn raise(header: &Header) -> Header
     ensures { result ≡ raised header.now }
@@ -58,6 +62,15 @@ fn devices_of(task: &Task) -> usize
         Some(text) => text.workers,
         None => 1,
     }
+}
+
+// A store for a run with bursts of this size. It keeps the segments of a window and of two bursts, one that is formed and one
+// that is worked on.
+fn open_store(alloc: Global, burst: usize) -> Result<Topped, OutOfMemory>
+    requires { burst ≤ 256 }
+{
+    let kept = MAX_KEPT.min(WINDOW + 2 * burst);
+    Ok(Topped::new(alloc, LocalPool::open(alloc, kept)?))
 }
 
 // Writes the header, and sends the packets behind it through a driver that is ready.
@@ -95,10 +108,12 @@ fn write_packets<S: Source, K: Sink, D: Driver<Card>>(
     ensures late { IsLate result.ending }
 {
     let devices = devices_of(task);
+    let Ok(mut store) = open_store(alloc, task.burst) else {
+        return without_packets(Ending::Memory, true, devices);
+    };
     if let Err(_fault) = write_header(out, &raise(header)) {
         return without_packets(Ending::WriteFault, true, devices);
     }
-    let mut store = FreshSegs::new(alloc);
     let sizes = Sizes {
         window: WINDOW,
         burst: task.burst,

@@ -4,3 +4,6 @@ pub mod Standard
 pub mod Filled
 pub mod Capture
 pub mod Limits
+pub mod Generated
+pub mod Generating
+pub mod Hashed

@@ -39,6 +39,9 @@
 //! The proved test `a_capture_is_read_and_written_again` is a short caller.
 #![tactic(auto)]
 
+mod drawn;
+mod generator;
+mod hash;
 mod header;
 mod laws;
 mod memory;
@@ -50,6 +53,8 @@ mod standard;
 mod text;
 mod writing;
 
+pub use generator::Generator;
+pub use hash::HashSink;
 pub use header::{CaptureCause, Header, Place, ReadStop, Record};
 pub use laws::one_reading;
 pub use memory::{MemSink, MemSource};
@@ -58,7 +63,7 @@ pub use pieces::{fill, write_all};
 pub use reading::{MAX_CAPTURED, read_header, read_record};
 pub use standard::{StdSink, StdSource};
 pub use text::{TextStop, read_text};
-pub use writing::{write_header, write_record};
+pub use writing::{spelled_record, write_header, write_record};
 
 #[cfg(test)]
 mod tests;

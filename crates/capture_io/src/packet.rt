@@ -3,7 +3,6 @@ ghost use Rattle.std.specs.Prelude.{◌≡◌, ◌≤◌, ◌<◌, ◌++◌, ℕ
 ghost use Rattle.crypto_model.specs.Counts.{Rose};
 ghost use Rattle.seg_list.specs.Buffer.{IsWhole};
 ghost use Rattle.mbuf_chain.specs.Chain.{packet_of, shape_of};
-ghost use Rattle.mbuf_chain.specs.Emptied.{IsEmptied};
 ghost use Rattle.capture_io.specs.Capture.{StopsPacket, CanStopPacket};
 ghost use Rattle.capture_io.specs.Filled.{filled_shape};
 
@@ -11,23 +10,11 @@ use crate::header::{CaptureCause, ReadStop};
 use crate::outside::Source;
 use crate::pieces::fill;
 use crate::reading::MAX_CAPTURED;
-use crypto_model::OutOfMemory;
-use mbuf_chain::{Mbuf, NoSeg, SegStore};
+use mbuf_chain::{Mbuf, SegStore, give_back, give_seg, take_seg};
 use seg_list::{Seg, SegList};
 use std::alloc::Global;
 
 const SEG_SIZE: usize = 2048;
-
-fn take_seg<P: SegStore>(store: &mut P) -> Result<Seg, OutOfMemory>
-    requires { P.endless }
-    ensures { IfOk result IsEmptied }
-{
-    match store.take() {
-        Ok(seg) => Ok(seg),
-        Err(NoSeg::OutOfMemory) => Err(OutOfMemory),
-        Err(NoSeg::Empty) => unreachable!(),
-    }
-}
 
 // Fills all of a segment's data, as a part of the record at this place.
 fn fill_seg<S: Source>(src: &mut S, seg: &mut Seg, at: u64) -> Result<(), ReadStop>
@@ -73,7 +60,7 @@ fn read_seg<S: Source, P: SegStore>(
     match fill_seg(src, &mut seg, at) {
         Ok(()) => Ok(seg),
         Err(stop) => {
-            store.give(seg);
+            give_seg(store, seg);
             Err(stop)
         }
     }
@@ -102,7 +89,7 @@ fn push_seg<S: Source, P: SegStore>(
     match segs.push_back(seg) {
         Ok(()) => Ok(()),
         Err(seg) => {
-            store.give(seg);
+            give_seg(store, seg);
             Err(ReadStop::OutOfMemory)
         }
     }
@@ -133,12 +120,6 @@ fn read_segs<S: Source, P: SegStore>(
         left -= SEG_SIZE;
     }
     push_seg(src, store, segs, left, at)
-}
-
-fn give_back<P: SegStore>(store: &mut P, mut segs: SegList) {
-    while let Some(seg) = segs.pop_back() {
-        store.give(seg);
-    }
 }
 
 /// Reads a packet of this length, of the record at this place.

@@ -1,3 +1,5 @@
+ghost use Rattle.mbuf_chain.specs.Emptied.{IsEmptied};
+
 use crate::{
     CaptureCause, Header, MemSink, MemSource, Place, ReadFault, ReadStop, Record, Sink, Source,
     StdSink, StdSource, TextStop, WriteFault, fill, one_reading, read_header, read_record,
@@ -9,6 +11,8 @@ use std::alloc::Global;
 use std::io;
 use std::io::{Read, Write};
 use std::test::Fail;
+
+mod made;
 
 // One capture in each spelling: a header with zone 1, accuracy 2, 64 bytes at most and link 3, and a
 // record at second 5 and fraction 6, of which 2 bytes were captured of 9.
@@ -211,7 +215,9 @@ impl SegStore for CountedSegs {
         self.segs.take()
     }
 
-    fn give(&mut self, seg: Seg) {
+    fn give(&mut self, seg: Seg)
+        requires { IsEmptied seg }
+    {
         self.back = self.back.saturating_add(1);
         self.segs.give(seg);
     }

@@ -1,5 +1,5 @@
 //! A capture is written to a sink.
-ghost use Rattle.std.specs.Prelude.{◌≡◌, ◌≤◌, ◌++◌, OnOk, OnErr};
+ghost use Rattle.std.specs.Prelude.{◌≡◌, ◌≤◌, ◌++◌, length, IfOk, OnOk, OnErr};
 ghost use Rattle.crypto_model.specs.Counts.{Rose};
 ghost use Rattle.capture_io.specs.Capture.{spelled, magic_number, header_bytes, record_bytes, view};
 ghost use Rattle.capture_io.specs.Pieces.{AppendsPart};
@@ -8,7 +8,9 @@ ghost use Rattle.mbuf_chain.specs.Chain.{packet_of};
 use crate::header::{Header, Record};
 use crate::outside::{Sink, WriteFault};
 use crate::pieces::write_all;
+use crypto_model::OutOfMemory;
 use seg_list::SegList;
+use std::alloc::Global;
 
 fn u16_bytes(big: bool, number: u16) -> [u8; 2]
     ensures { result ≡ spelled big 2 number }
@@ -41,7 +43,7 @@ fn spelled_magic(big: bool, nanos: bool) -> [u8; 8]
     bytes
 }
 
-fn spelled_words(big: bool, first: u32, second: u32, third: u32, fourth: u32) -> [u8; 16]
+pub(crate) fn spelled_words(big: bool, first: u32, second: u32, third: u32, fourth: u32) -> [u8; 16]
     ensures { result ≡ spelled big 4 first ++ spelled big 4 second ++ spelled big 4 third ++ spelled big 4 fourth }
 {
     let mut bytes = [0; 16];
@@ -52,7 +54,7 @@ fn spelled_words(big: bool, first: u32, second: u32, third: u32, fourth: u32) ->
     bytes
 }
 
-fn spelled_header(header: &Header) -> [u8; 24]
+pub(crate) fn spelled_header(header: &Header) -> [u8; 24]
     ensures { result ≡ header_bytes header.now }
 {
     let big = header.big;
@@ -97,6 +99,26 @@ fn write_segs<K: Sink>(sink: &mut K, segs: &SegList) -> Result<(), WriteFault>
         write_all(sink, seg.data())?;
     }
     Ok(())
+}
+
+fn append_segs(bytes: &mut Vec<u8>, segs: &SegList) -> Result<(), OutOfMemory>
+    ensures { OnOk result (bytes.new.items ≡ bytes.old.items ++ packet_of segs.now) }
+{
+    for seg in segs.iter() {
+        bytes.extend_from_slice(seg.data())?;
+    }
+    Ok(())
+}
+
+/// The bytes of a record, as it is written.
+pub fn spelled_record(alloc: Global, header: &Header, rec: &Record) -> Result<Vec<u8>, OutOfMemory>
+    ensures bytes { IfOk result (λ b. b.items ≡ record_bytes header.now.big (view rec.now)) }
+    ensures few { IfOk result (λ b. length b.items ≤ 524304) }
+{
+    let mut bytes = Vec::with_capacity(alloc, 16 + rec.packet.len())?;
+    bytes.extend_from_slice(&spelled_head(header.big, rec))?;
+    append_segs(&mut bytes, rec.packet.segs())?;
+    Ok(bytes)
 }
 
 /// Writes a record. At a fault a front of its bytes was written.

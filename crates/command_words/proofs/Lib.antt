@@ -1,4 +1,4 @@
 pub mod Given
 pub mod Taken
 pub mod Readings
-pub mod Count
+pub mod Numerals

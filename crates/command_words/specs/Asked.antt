@@ -1,5 +1,5 @@
 -- What the words behind the program's name ask for.
-use Rattle.std.specs.Prelude.{◌&&◌, ℕ, Bool, true, false, List, [], ◌∷◌, length, codes, Option, Some, None, Result, Ok, Err, bytes_eq, nat_le, if◌then◌else◌}
+use Rattle.std.specs.Prelude.{◌&&◌, ◌-◌, ◌^◌, ℕ, Bool, true, false, List, [], ◌∷◌, length, codes, Option, Some, None, Result, Ok, Err, bytes_eq, nat_le, if◌then◌else◌}
 use Rattle.std.specs.Char.{is_ascii_digit}
 use Rattle.std.specs.List.{list_all}
 use Rattle.std.specs.Str.Parse.{digits_value}
@@ -13,6 +13,7 @@ use Rattle.sched_core.specs.declared.text.SchedText.{SchedText}
 pub data Wanted : Type 0 where
   AsksQuick : (key salt : List ℕ) → Wanted
   AsksCrypt : (scheduler : SchedText) (sessions : List ℕ) (burst : ℕ) → Wanted
+  AsksGen : (packets number : ℕ) → Wanted
 
 -- the words are not legal, or their scheduler text is not, from this place on
 pub data Fault : Type 0 where
@@ -30,22 +31,44 @@ abbrev pub quick_asked : List (List ℕ) → Result Wanted Fault
 quick_asked (key ∷ salt ∷ []) = quick_with (key_of key) (salt_of salt)
 quick_asked _ = Err NotLegal
 
+-- ---- numbers
+
+-- 1 to so many decimal digits
+unfoldable pub is_numeral : ℕ → List ℕ → Bool
+is_numeral most text = nat_le 1 (length text) && (nat_le (length text) most && list_all is_ascii_digit text)
+
+-- the number of so many digits at most
+abbrev pub number_in : ℕ → List ℕ → Option ℕ
+number_in most text = if is_numeral most text then Some (digits_value 10 text) else None
+
+abbrev pub if_within : ℕ → ℕ → Option ℕ → Option ℕ
+if_within least most None = None
+if_within least most (Some n) = if nat_le least n && nat_le n most then Some n else None
+
+-- ---- `gen N NUMBER`
+
+-- N: 1 to 7 digits, from 1 to a million
+abbrev pub packets_in : List ℕ → Option ℕ
+packets_in text = if_within 1 1000000 (number_in 7 text)
+
+-- NUMBER: 1 to 20 digits, below 2 ^ 64
+abbrev pub seed_in : List ℕ → Option ℕ
+seed_in text = if_within 0 (2 ^ 64 - 1) (number_in 20 text)
+
+abbrev pub gen_with : Option ℕ → Option ℕ → ℕ → Result Wanted Fault
+gen_with (Some packets) (Some number) devices = if nat_le 2 devices then Ok (AsksGen packets number) else Err NotLegal
+gen_with _ _ devices = Err NotLegal
+
+-- the words behind `gen`, which uses two devices
+abbrev pub gen_asked : List (List ℕ) → ℕ → Result Wanted Fault
+gen_asked (packets ∷ number ∷ []) devices = gen_with (packets_in packets) (seed_in number) devices
+gen_asked _ devices = Err NotLegal
+
 -- ---- `crypt`
 
--- 1 to 10 decimal digits
-unfoldable pub is_count : List ℕ → Bool
-is_count text = nat_le 1 (length text) && (nat_le (length text) 10 && list_all is_ascii_digit text)
-
-abbrev pub count_in : List ℕ → Option ℕ
-count_in text = if is_count text then Some (digits_value 10 text) else None
-
-abbrev pub burst_if_within : Option ℕ → Option ℕ
-burst_if_within None = None
-burst_if_within (Some n) = if nat_le 1 n && nat_le n 256 then Some n else None
-
--- N: a count from 1 to 256
+-- N: 1 to 10 digits, from 1 to 256
 abbrev pub burst_in : List ℕ → Option ℕ
-burst_in text = burst_if_within (count_in text)
+burst_in text = if_within 1 256 (number_in 10 text)
 
 abbrev pub burst_of : Option (List ℕ) → Option ℕ
 burst_of None = Some 32
@@ -77,7 +100,8 @@ unfoldable pub wanted : List (List ℕ) → ℕ → Result Wanted Fault
 wanted [] devices = Err NotLegal
 wanted (word ∷ rest) devices =
     if bytes_eq word (codes "quick") then quick_asked rest
-    else (if bytes_eq word (codes "crypt") then with_values (values_of (word ∷ rest)) devices else Err NotLegal)
+    else (if bytes_eq word (codes "gen") then gen_asked rest devices
+    else (if bytes_eq word (codes "crypt") then with_values (values_of (word ∷ rest)) devices else Err NotLegal))
 
 -- the file of the sessions, where legal words name one
 abbrev pub sessions_file : Result Wanted Fault → Option (List ℕ)

@@ -5,11 +5,12 @@ use Rattle.sched_core.specs.declared.mode.Mode.TheVariants.{MultiCore}
 use Rattle.sched_core.specs.declared.text.SchedText.{SchedText}
 use Rattle.command_words.specs.declared.quick.Quick.{Quick}
 use Rattle.command_words.specs.declared.crypt.Crypt.{Crypt}
+use Rattle.command_words.specs.declared.generated.Gen.{Gen}
 use Rattle.command_words.specs.declared.command.Command.{Command}
 use Rattle.command_words.specs.declared.command.Command.TheVariants as command
 use Rattle.command_words.specs.declared.refused.WordsRefused.{WordsRefused}
 use Rattle.command_words.specs.declared.refused.WordsRefused.TheVariants.{Usage, Vdev, OutOfMemory}
-use Rattle.command_words.specs.Asked.{Wanted, AsksQuick, AsksCrypt, Fault, NotLegal, BadText}
+use Rattle.command_words.specs.Asked.{Wanted, AsksQuick, AsksCrypt, AsksGen, Fault, NotLegal, BadText}
 
 abbrev pub quick_view : Quick → Wanted
 quick_view q = AsksQuick q.key q.salt
@@ -17,9 +18,13 @@ quick_view q = AsksQuick q.key q.salt
 abbrev pub crypt_view : Crypt → Wanted
 crypt_view c = AsksCrypt c.scheduler c.sessions.now c.burst
 
+abbrev pub gen_view : Gen → Wanted
+gen_view g = AsksGen g.packets g.number
+
 abbrev pub command_view : Command → Wanted
 command_view (command.Quick q) = quick_view q
 command_view (command.Crypt c) = crypt_view c
+command_view (command.Gen g) = gen_view g
 
 -- the words are refused as they should be, or memory was wanting
 abbrev pub Refuses : WordsRefused → Result Wanted Fault → Type 0
@@ -49,3 +54,4 @@ pub record IsLegal (c : Crypt) : Type 0 where
 abbrev pub IsLegalIfCrypt : Command → Type 0
 IsLegalIfCrypt (command.Quick q) = Unit {0}
 IsLegalIfCrypt (command.Crypt c) = IsLegal c
+IsLegalIfCrypt (command.Gen g) = Unit {0}

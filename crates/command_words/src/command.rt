@@ -4,6 +4,7 @@ ghost use Rattle.command_words.specs.Asked.{wanted, sessions_file};
 ghost use Rattle.command_words.specs.Gives.{Gives, IsLegalIfCrypt};
 
 use crate::crypt::{Crypt, crypt_of};
+use crate::generated::{Gen, gen_of};
 use crate::quick::{Quick, quick_of};
 use crate::refused::WordsRefused;
 use crypto_model::OutOfMemory;
@@ -17,6 +18,7 @@ const MAX_DEVICES: usize = 8;
 pub enum Command<'a> {
     Quick(Quick),
     Crypt(Crypt<'a>),
+    Gen(Gen),
 }
 
 /// What the words behind the program's name ask for, where so many devices are there.
@@ -38,6 +40,12 @@ pub fn command_of<'a>(
             None => Err(WordsRefused::Usage),
         };
     }
+    if word.as_str() == "gen" {
+        return match gen_of(rest, devices) {
+            Some(generated) => Ok(Command::Gen(generated)),
+            None => Err(WordsRefused::Usage),
+        };
+    }
     if word.as_str() != "crypt" {
         return Err(WordsRefused::Usage);
     }
@@ -56,7 +64,7 @@ pub fn sessions_path(alloc: Global, words: &[String]) -> Result<Option<String>, 
             let path = String::from_str(alloc, crypt.sessions)?;
             Ok(Some(path))
         }
-        Ok(Command::Quick(_)) => Ok(None),
+        Ok(Command::Quick(_) | Command::Gen(_)) => Ok(None),
         Err(WordsRefused::OutOfMemory) => Err(OutOfMemory),
         Err(_) => Ok(None),
     }

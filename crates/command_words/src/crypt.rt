@@ -1,11 +1,10 @@
 //! `crypt`: the rules on top of its options.
 ghost use Rattle.std.specs.Prelude.{◌≡◌, ◌≤◌, IfOk, IfSome, map, option_map, string_bytes};
-ghost use Rattle.std.specs.Char.{is_ascii_digit};
-ghost use Rattle.std.specs.List.{list_all};
 ghost use Rattle.command_words.specs.Options.{options_view, values_of};
-ghost use Rattle.command_words.specs.Asked.{burst_in, burst_of, count_in, is_count, is_on_one_thread, with_burst, with_values};
+ghost use Rattle.command_words.specs.Asked.{burst_in, burst_of, is_on_one_thread, with_burst, with_values};
 ghost use Rattle.command_words.specs.Gives.{GivesCrypt, IsLegal};
 
+use crate::numeral::number_in;
 use crate::options::{Options, OptionsRefused, options_of};
 use crate::refused::WordsRefused;
 use sched_core::{Mode, SchedText};
@@ -21,35 +20,12 @@ pub struct Crypt<'a> {
     pub burst: usize,
 }
 
-fn has_only_digits(text: &[u8]) -> bool
-    ensures { result ≡ list_all is_ascii_digit text.now }
-{
-    text.iter().all(|b| b.is_ascii_digit())
-}
-
-#[tactic(auto, unfolding(crate::specs::Asked::is_count))]
-fn is_count(text: &str) -> bool
-    ensures { result ≡ is_count text.now }
-{
-    matches!(text.len(), 1..=10) && has_only_digits(text.as_bytes())
-}
-
-fn count_in(text: &str) -> Option<usize>
-    ensures { result ≡ count_in text.now }
-{
-    if is_count(text) {
-        text.parse().ok()
-    } else {
-        None
-    }
-}
-
 fn burst_in(text: &str) -> Option<usize>
     ensures value { result ≡ burst_in text.now }
     ensures range { IfSome result (λ n. (1 ≤ n) × (n ≤ 256)) }
 {
-    match count_in(text) {
-        Some(burst @ 1..=256) => Some(burst),
+    match number_in(text, 10) {
+        Some(burst @ 1..=256) => Some(burst as usize),
         _ => None,
     }
 }

@@ -4,6 +4,7 @@
 //! |---|---|
 //! | `quick KEY SALT` | three words. KEY has 32, 48 or 64 hexadecimal digits of either case, and SALT has 8 |
 //! | `crypt --vdev TEXT --sessions FILE` | the options in any order, each once, and perhaps `--burst N` among them |
+//! | `gen N NUMBER` | three words. N has 1 to 7 decimal digits, from 1 to 1,000,000, and NUMBER 1 to 20, below 2^64. There are two devices |
 //!
 //! The words of `crypt` are read with `clap` as one simple command of that name, whose options take one value
 //! each: `--burst 32` and `--burst=32` are both usual, and `--sessions=` names a file of no letters. Three rules
@@ -26,12 +27,15 @@
 
 mod command;
 mod crypt;
+mod generated;
+mod numeral;
 mod options;
 mod quick;
 mod refused;
 
 pub use command::{Command, command_of, sessions_path};
 pub use crypt::Crypt;
+pub use generated::Gen;
 pub use quick::Quick;
 pub use refused::WordsRefused;
 

@@ -30,7 +30,7 @@ fn crypt_of(
 ) -> Result<Option<(&str, usize)>, WordsRefused> {
     match command_of(alloc, words, devices) {
         Ok(Command::Crypt(crypt)) => Ok(Some((crypt.sessions, crypt.burst))),
-        Ok(Command::Quick(_)) => Ok(None),
+        Ok(Command::Quick(_) | Command::Gen(_)) => Ok(None),
         Err(refused) => Err(refused),
     }
 }
@@ -241,6 +241,53 @@ fn keys_have_three_lengths(rt: HostRuntime) -> Result<(), Fail> {
             Err(WordsRefused::Usage)
         };
         assert_eq!(rt; crypt_of(alloc, &words, 1), wanted, "{line}");
+    }
+    Ok(())
+}
+
+// Each case is words, the number of devices, and the packets and the number that they ask for, if they are legal.
+#[test]
+fn the_words_of_gen_are_read(rt: HostRuntime) -> Result<(), Fail> {
+    let alloc = rt.alloc();
+    for (line, devices, said) in [
+        ("gen 1 0", 2, Some((1, 0))),
+        ("gen 10000 7", 8, Some((10_000, 7))),
+        ("gen 1000000 7", 2, Some((1_000_000, 7))),
+        ("gen 0000001 00000000000000000007", 2, Some((1, 7))),
+        (
+            "gen 2 18446744073709551615",
+            2,
+            Some((2, 18_446_744_073_709_551_615)),
+        ),
+        ("gen 0 7", 2, None),
+        ("gen 1000001 7", 2, None),
+        ("gen 00000001 7", 2, None),
+        ("gen 1 18446744073709551616", 2, None),
+        ("gen 1 99999999999999999999", 2, None),
+        ("gen 1 000000000000000000007", 2, None),
+        ("gen 1 7", 1, None),
+        ("gen 1 7", 0, None),
+        ("gen", 2, None),
+        ("gen 1", 2, None),
+        ("gen 1 7 7", 2, None),
+        ("gen +1 7", 2, None),
+        ("gen 1 -7", 2, None),
+        ("gen 1x 7", 2, None),
+        ("gen 1 0x7", 2, None),
+        ("Gen 1 7", 2, None),
+    ] {
+        let words = words_of(alloc, line)?;
+        let found = match command_of(alloc, &words, devices) {
+            Ok(Command::Gen(generated)) => Ok((generated.packets, generated.number)),
+            Ok(_) => return Err("another command".into()),
+            Err(refused) => Err(refused),
+        };
+        assert_eq!(rt;
+            found,
+            said.ok_or(WordsRefused::Usage),
+            "{line}, {devices} devices"
+        );
+        assert_eq!(rt; sessions_path(alloc, &words)?, None, "{line}");
     }
     Ok(())
 }

@@ -27,7 +27,7 @@ mod work;
 pub use mbuf::Mbuf;
 pub use piece_iter::PieceIter;
 pub use refusal::{AddRefused, NoHeadroom, NoTailroom, TooManySegs, TooShort};
-pub use store::{FreshSegs, NoSeg, SegStore};
+pub use store::{FreshSegs, NoSeg, SegStore, give_back, give_seg, take_seg};
 pub use work::Work;
 
 #[cfg(test)]

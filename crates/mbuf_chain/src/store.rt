@@ -4,7 +4,8 @@ ghost use Rattle.std.specs.Result.{IsErrOf};
 ghost use Rattle.mbuf_chain.specs.Emptied.{IsEmptied};
 ghost use Rattle.mbuf_chain.specs.declared.store.NoSeg.TheVariants.{Empty};
 
-use seg_list::{SEG_SIZE, Seg};
+use crypto_model::OutOfMemory;
+use seg_list::{SEG_SIZE, Seg, SegList};
 use std::alloc::Global;
 use thiserror::Error;
 
@@ -26,7 +27,34 @@ pub trait SegStore {
         ensures emptied { IfOk result IsEmptied }
         ensures endless { endless → ¬ (IsErrOf result Empty) };
 
-    fn give(&mut self, seg: Seg);
+    /// Takes a segment back that has no data.
+    fn give(&mut self, seg: Seg)
+        requires { IsEmptied seg };
+}
+
+/// A segment of a store that is never empty.
+pub fn take_seg<P: SegStore>(store: &mut P) -> Result<Seg, OutOfMemory>
+    requires { P.endless }
+    ensures { IfOk result IsEmptied }
+{
+    match store.take() {
+        Ok(seg) => Ok(seg),
+        Err(NoSeg::OutOfMemory) => Err(OutOfMemory),
+        Err(NoSeg::Empty) => unreachable!(),
+    }
+}
+
+/// Gives a segment back without its data.
+pub fn give_seg<P: SegStore>(store: &mut P, mut seg: Seg) {
+    seg.set(0, 0);
+    store.give(seg);
+}
+
+/// Gives the segments of a packet back without their data.
+pub fn give_back<P: SegStore>(store: &mut P, mut segs: SegList) {
+    while let Some(seg) = segs.pop_front() {
+        give_seg(store, seg);
+    }
 }
 
 /// Makes each segment anew, and drops what is given back.
@@ -56,7 +84,9 @@ impl SegStore for FreshSegs {
         }
     }
 
-    fn give(&mut self, seg: Seg) {
+    fn give(&mut self, seg: Seg)
+        requires { IsEmptied seg }
+    {
         drop(seg);
     }
 }

@@ -59,14 +59,14 @@ impl SegStore for LocalPool {
         self.segs.pop().ok_or(NoSeg::Empty)
     }
 
-    /// Keeps the segment without its data, or drops it where there are as many as the pool keeps. Takes no memory.
-    fn give(&mut self, mut seg: Seg)
+    /// Keeps the segment, or drops it where there are as many as the pool keeps. Takes no memory.
+    fn give(&mut self, seg: Seg)
+        requires { IsEmptied seg }
         ensures { self.new ≡ given self.old }
     {
         if self.segs.len() == self.most {
             return;
         }
-        seg.set(0, 0);
         if self.segs.push(seg).is_err() {
             unreachable!()
         }

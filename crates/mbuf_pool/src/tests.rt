@@ -3,7 +3,7 @@ ghost use Rattle.mbuf_pool.specs.Ticket.{new_ticket};
 
 use crate::{LocalPool, Pool, SegPass, Topped};
 use crypto_model::OutOfMemory;
-use mbuf_chain::{NoSeg, SegStore};
+use mbuf_chain::{NoSeg, SegStore, give_seg};
 use std::alloc::Global;
 use std::sync::Wait;
 use std::test::Fail;
@@ -44,7 +44,7 @@ fn a_pool_of_one_thread_answers_empty_after_its_last(rt: HostRuntime) -> Result<
     let mut seg = pool.take()?;
     assert_eq!(rt; (seg.off(), seg.len()), (0, 0));
     seg.set(3, 4);
-    pool.give(seg);
+    give_seg(&mut pool, seg);
     let seg = pool.take()?;
     assert_eq!(rt; (seg.off(), seg.len()), (0, 0));
     Ok(())

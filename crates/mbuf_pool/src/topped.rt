@@ -56,8 +56,9 @@ impl SegStore for Topped {
         self.fresh.take()
     }
 
-    /// Keeps the segment without its data, or drops it where the pool is full. Takes no memory.
+    /// Keeps the segment, or drops it where the pool is full. Takes no memory.
     fn give(&mut self, seg: Seg)
+        requires { IsEmptied seg }
         ensures { self.new ≡ given self.old }
     {
         self.pool.give(seg);

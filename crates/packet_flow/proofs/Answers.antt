@@ -1,6 +1,6 @@
 -- Records that are answered one after another, from a number on.
 use Rattle.std.proofs.Common.{◌≡◌, ◌≤◌, ◌+◌, ◌==◌, ℕ, Bool, zero, suc, List, [], ◌∷◌, ◌++◌, length, take, drop, count_by, refl, ap, sym, subst, ◌∙◌, arith, add-zero, append_assoc, length-append}
-use Rattle.std.specs.Prelude.{Some}
+use Rattle.std.specs.Prelude.{Option, Some}
 use Rattle.std.specs.List.{All, flat_map, slice_get}
 use Rattle.std.proofs.Math.Seq.{take-append_seam}
 use Rattle.std.proofs.lemmas.List.{append-nil, length-map, map-append}
@@ -11,17 +11,14 @@ use Rattle.crypto_op.specs.Op.{Entry, input_of}
 use Rattle.capture_io.specs.Capture.{Rec}
 use Rattle.capture_io.specs.Pieces.{AppendsPart}
 use Rattle.session_file.specs.declared.plan.Plan.{Plan}
-use Rattle.packet_plan.specs.declared.written.Written.{Written}
 use Rattle.packet_plan.specs.Answered.{Answered, answered, answered_from}
 use Rattle.packet_plan.specs.Asked.{Works, asked}
-use Rattle.packet_plan.specs.Work.{written_view}
 use Rattle.packet_flow.specs.declared.counts.Counts.{Counts}
-use Rattle.packet_flow.specs.declared.slots.Slot.{Slot}
-use Rattle.packet_flow.specs.declared.slots.Slot.TheVariants.{Ready}
+use Rattle.packet_flow.specs.Seats.{Seat, Ready}
 use Rattle.packet_flow.specs.Counts.{counts_of}
 use Rattle.packet_flow.specs.Flowed.{CutAt, answer_bytes}
 use Rattle.packet_flow.specs.Numbered.{Numbered, answers_to, numbered, numbers_of}
-use Rattle.packet_flow.specs.Slots.{IsFor, SlotsSay, StandFor, open_numbers}
+use Rattle.packet_flow.specs.Slots.{IsFor, SeatsSay, StandFor, open_numbers}
 use Rattle.packet_flow.specs.Writing.{Appends, CutsNext, HasWritten}
 use Rattle.packet_flow.proofs.InSlots.{count-cons, none_below, one, same_told, times}
 use Rattle.packet_flow.proofs.Rising.{length-numbered, rises_lower}
@@ -95,18 +92,18 @@ all_behind plan p ps (e ∷ es) all none =
     (all_behind plan p ps es (All-tail (IsFor plan (p ∷ ps)) e es all) (omega (arith, split, none)))
 
 -- it is that of the first packet, and the others stand for the packets behind
-pub record FrontReady (plan : Plan) (ps : List Numbered) (ss : List Slot) (w : Written) (entries : List (Entry Card)) : Type 0 where
+pub record FrontReady (plan : Plan) (ps : List Numbered) (ss : List Seat) (a : Answered) (entries : List (Entry Card)) : Type 0 where
   pub packet : Numbered
   pub others : List Numbered
   pub split : ps ≡ packet ∷ others
-  pub view : written_view w ≡ answered plan packet.number packet.rec
+  pub view : a ≡ answered plan packet.number packet.rec
   pub stand : StandFor plan others ss entries
 
-ready_step : (plan : Plan) (ps : List Numbered) (ss : List Slot) (n : ℕ) (w : Written) (entries : List (Entry Card)) → SlotsSay plan (Ready n w ∷ ss) ps → StandFor plan ps (Ready n w ∷ ss) entries
-    → FrontReady plan ps ss w entries
-unfolding SlotsSay open_numbers
-ready_step plan [] ss n w entries say b = absurd say
-ready_step plan (p ∷ ps) ss n w entries say b =
+ready_step : (plan : Plan) (ps : List Numbered) (ss : List Seat) (n : ℕ) (a : Answered) (order : Option Bool) (entries : List (Entry Card)) → SeatsSay plan (Ready n a order ∷ ss) ps → StandFor plan ps (Ready n a order ∷ ss) entries
+    → FrontReady plan ps ss a entries
+unfolding SeatsSay open_numbers
+ready_step plan [] ss n a order entries say b = absurd say
+ready_step plan (p ∷ ps) ss n a order entries say b =
     let none : times p.number (open_numbers ss) ≡ 0 = none_below plan p.number (p.number + 1) ss ps say.1 b.rising.1 (omega arith) in
     record {
       packet = p;
@@ -121,14 +118,14 @@ ready_step plan (p ∷ ps) ss n w entries say b =
       };
     }
 
-pub front_ready : (plan : Plan) (ps : List Numbered) (ss : List Slot) (n : ℕ) (w : Written) (entries : List (Entry Card)) → StandFor plan ps (Ready n w ∷ ss) entries → FrontReady plan ps ss w entries
-front_ready plan ps ss n w entries b = ready_step plan ps ss n w entries b.slots b
+pub front_ready : (plan : Plan) (ps : List Numbered) (ss : List Seat) (n : ℕ) (a : Answered) (order : Option Bool) (entries : List (Entry Card)) → StandFor plan ps (Ready n a order ∷ ss) entries → FrontReady plan ps ss a entries
+front_ready plan ps ss n a order entries b = ready_step plan ps ss n a order entries b.slots b
 
 -- ---- what is written of them
 
 module _ (big : Bool) (k_tells : Type 0) (plan : Plan) (ps : List Numbered) (entries : List (Entry Card)) (base : List ℕ) (before : Counts) where
   -- nothing yet
-  pub none_written : (ss : List Slot) → StandFor plan ps ss entries → HasWritten plan ps entries ss before before (Appends plan big k_tells base base)
+  pub none_written : (ss : List Seat) → StandFor plan ps ss entries → HasWritten plan ps entries ss before before (Appends plan big k_tells base base)
   none_written ss b = record {
     gone = [];
     left = ps;
@@ -138,37 +135,37 @@ module _ (big : Bool) (k_tells : Type 0) (plan : Plan) (ps : List Numbered) (ent
     says = λ told. sym (append-nil base);
   }
 
-  module _ (n : ℕ) (w : Written) (ss : List Slot) (now after : Counts) (old new : List ℕ) (h : HasWritten plan ps entries (Ready n w ∷ ss) before now (Appends plan big k_tells base old)) where
+  module _ (n : ℕ) (w : Answered) (order : Option Bool) (ss : List Seat) (now after : Counts) (old new : List ℕ) (h : HasWritten plan ps entries (Ready n w order ∷ ss) before now (Appends plan big k_tells base old)) where
     front : FrontReady plan h.left ss w entries
-    front = front_ready plan h.left ss n w entries h.stand
+    front = front_ready plan h.left ss n w order entries h.stand
 
     abbrev gone_now : List Numbered
     gone_now = h.gone ++ front.packet ∷ []
 
-    answers_now : answers_to plan gone_now ≡ answers_to plan h.gone ++ written_view w ∷ []
+    answers_now : answers_to plan gone_now ≡ answers_to plan h.gone ++ w ∷ []
     answers_now = answers_to-append plan h.gone (front.packet ∷ []) ∙ ap (λ (a : Answered). answers_to plan h.gone ++ a ∷ []) (sym front.view)
 
     -- one more
     pub written_more : ((answers : List Answered) (a : Answered) → now ≡ counts_of answers → a.fate ≡ w.fate → after ≡ counts_of (answers ++ a ∷ []))
-        → (k_tells → new ≡ old ++ answer_bytes big (written_view w)) → HasWritten plan ps entries ss before after (Appends plan big k_tells base new)
+        → (k_tells → new ≡ old ++ answer_bytes big w) → HasWritten plan ps entries ss before after (Appends plan big k_tells base new)
     written_more counted appended = record {
       gone = gone_now;
       left = front.others;
       split = h.split ∙ ap (λ (l : List Numbered). h.gone ++ l) front.split ∙ sym (append_assoc h.gone (front.packet ∷ []) front.others);
       stand = front.stand;
       counts = λ answers is.
-          counted (answers ++ answers_to plan h.gone) (written_view w) (h.counts answers is) refl
-          ∙ ap counts_of (append_assoc answers (answers_to plan h.gone) (written_view w ∷ []) ∙ ap (λ (l : List Answered). answers ++ l) (sym answers_now));
+          counted (answers ++ answers_to plan h.gone) w (h.counts answers is) refl
+          ∙ ap counts_of (append_assoc answers (answers_to plan h.gone) (w ∷ []) ∙ ap (λ (l : List Answered). answers ++ l) (sym answers_now));
       says = λ told.
           let bytes = answer_bytes big in
-          let more : flat_map bytes (answers_to plan h.gone) ++ bytes (written_view w) ≡ flat_map bytes (answers_to plan gone_now) =
-          ap (λ (l : List ℕ). flat_map bytes (answers_to plan h.gone) ++ l) (sym (append-nil (bytes (written_view w)))) ∙ sym (flat_map-append bytes (answers_to plan h.gone) (written_view w ∷ []))
+          let more : flat_map bytes (answers_to plan h.gone) ++ bytes w ≡ flat_map bytes (answers_to plan gone_now) =
+          ap (λ (l : List ℕ). flat_map bytes (answers_to plan h.gone) ++ l) (sym (append-nil (bytes w))) ∙ sym (flat_map-append bytes (answers_to plan h.gone) (w ∷ []))
           ∙ ap (flat_map bytes) (sym answers_now) in
-          appended told ∙ ap (λ (l : List ℕ). l ++ bytes (written_view w)) (h.says told) ∙ append_assoc base (flat_map bytes (answers_to plan h.gone)) (bytes (written_view w)) ∙ ap (λ (l : List ℕ). base ++ l) more;
+          appended told ∙ ap (λ (l : List ℕ). l ++ bytes w) (h.says told) ∙ append_assoc base (flat_map bytes (answers_to plan h.gone)) (bytes w) ∙ ap (λ (l : List ℕ). base ++ l) more;
     }
 
     -- it isn't written whole
-    pub cut_here : (k_tells → AppendsPart old new (answer_bytes big (written_view w))) → HasWritten plan ps entries (Ready n w ∷ ss) before now (CutsNext plan big k_tells base new)
+    pub cut_here : (k_tells → AppendsPart old new (answer_bytes big w)) → HasWritten plan ps entries (Ready n w order ∷ ss) before now (CutsNext plan big k_tells base new)
     cut_here part = record {
       gone = h.gone;
       left = h.left;
@@ -177,8 +174,8 @@ module _ (big : Bool) (k_tells : Type 0) (plan : Plan) (ps : List Numbered) (ent
       counts = h.counts;
       says = λ told.
           let own = part told in
-          let some : AppendsPart (base ++ flat_map (answer_bytes big) (answers_to plan h.gone)) new (answer_bytes big (written_view w)) =
-          (own.0, own.1, own.2 ∙ ap (λ (l : List ℕ). l ++ take own.0 (answer_bytes big (written_view w))) (h.says told)) in
+          let some : AppendsPart (base ++ flat_map (answer_bytes big) (answers_to plan h.gone)) new (answer_bytes big w) =
+          (own.0, own.1, own.2 ∙ ap (λ (l : List ℕ). l ++ take own.0 (answer_bytes big w)) (h.says told)) in
           (front.packet, front.others, front.split, subst (λ (a : Answered). AppendsPart (base ++ flat_map (answer_bytes big) (answers_to plan h.gone)) new (answer_bytes big a)) front.view some);
     }
 
@@ -196,7 +193,7 @@ module _ (plan : Plan) (used : List Rec) (done waiting : List Numbered) (split :
       → new ≡ base ++ flat_map (answer_bytes big) (take (length done) (answered_from plan 0 used))
   writes_first big base new is = is ∙ ap (λ (l : List Answered). base ++ flat_map (answer_bytes big) l) (sym (first_answers_to plan used done waiting split))
 
-  module _ (entries : List (Entry Card)) (ss : List Slot) (before after : Counts) (Says : List Numbered → List Numbered → Type 0) (h : HasWritten plan waiting entries ss before after Says) where
+  module _ (entries : List (Entry Card)) (ss : List Seat) (before after : Counts) (Says : List Numbered → List Numbered → Type 0) (h : HasWritten plan waiting entries ss before after Says) where
     pub split_now : numbered 0 used ≡ (done ++ h.gone) ++ h.left
     split_now = split ∙ ap (λ (l : List Numbered). done ++ l) h.split ∙ sym (append_assoc done h.gone h.left)
 

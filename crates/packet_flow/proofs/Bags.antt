@@ -11,7 +11,7 @@ use Rattle.crypto_op.specs.Burst.{Burst}
 use Rattle.crypto_op.specs.Op.{Entry}
 use Rattle.dev_core.specs.Burst.{with_ops}
 use Rattle.session_file.specs.declared.plan.Plan.{Plan}
-use Rattle.packet_flow.specs.declared.slots.Slot.{Slot}
+use Rattle.packet_flow.specs.Seats.{Seat}
 use Rattle.packet_flow.specs.Numbered.{Numbered}
 use Rattle.packet_flow.specs.Slots.{StandFor, IsFor}
 
@@ -22,7 +22,7 @@ count-permutation : {X : Type 0} (p : X → Bool) (xs ys : List X) → IsPermuta
 count-permutation p xs ys h = sum_by-IsPermutation (λ y. cond (p y) 1 0) xs ys h
 
 -- the entries in another order
-pub stand_moved : (plan : Plan) (ps : List Numbered) (ss : List Slot) (xs ys : List (Entry Card)) → IsPermutation xs ys
+pub stand_moved : (plan : Plan) (ps : List Numbered) (ss : List Seat) (xs ys : List (Entry Card)) → IsPermutation xs ys
     → StandFor plan ps ss xs → StandFor plan ps ss ys
 stand_moved plan ps ss xs ys h b = record {
   slots = b.slots;
@@ -32,14 +32,14 @@ stand_moved plan ps ss xs ys h b = record {
 }
 
 -- some of what was held came back
-pub came_back : (plan : Plan) (ps : List Numbered) (ss : List Slot) (back held held' rest : List (Entry Card)) → IsPermutation (back ++ held') held
+pub came_back : (plan : Plan) (ps : List Numbered) (ss : List Seat) (back held held' rest : List (Entry Card)) → IsPermutation (back ++ held') held
     → StandFor plan ps ss (held ++ rest) → StandFor plan ps ss (back ++ (held' ++ rest))
 came_back plan ps ss back held held' rest h b =
     subst (StandFor plan ps ss) (append_assoc back held' rest)
     (stand_moved plan ps ss (held ++ rest) ((back ++ held') ++ rest) (IsPermutation-append_left rest held (back ++ held') (IsPermutation-sym (back ++ held') held h)) b)
 
 -- the first of those that were offered are held too
-pub went_in : {X : Type 0} (f : X → Entry Card) (plan : Plan) (ps : List Numbered) (n : ℕ) (ss : List Slot) (held held' : List (Entry Card)) (offered : List X)
+pub went_in : {X : Type 0} (f : X → Entry Card) (plan : Plan) (ps : List Numbered) (n : ℕ) (ss : List Seat) (held held' : List (Entry Card)) (offered : List X)
     → IsPermutation (held ++ map f (take n offered)) held' → StandFor plan ps ss (held ++ map f offered) → StandFor plan ps ss (held' ++ map f (drop n offered))
 went_in f plan ps n ss held held' offered h b =
     let split : held ++ map f offered ≡ (held ++ map f (take n offered)) ++ map f (drop n offered) =

@@ -21,7 +21,7 @@ use Rattle.packet_flow.specs.declared.counts.Counts.{Counts}
 use Rattle.packet_flow.specs.declared.passage.Passage.{Passage}
 use Rattle.packet_flow.specs.declared.flow.FlowEnd.{FlowEnd}
 use Rattle.packet_flow.specs.declared.flow.FlowEnd.TheVariants.{WriteFault}
-use Rattle.packet_flow.specs.declared.slots.Slot.{Slot}
+use Rattle.packet_flow.specs.Seats.{AllIn, Seat, WaitsAtFront}
 use Rattle.packet_flow.specs.declared.window.Packet.{Packet}
 use Rattle.packet_flow.specs.Counts.{counts_of}
 use Rattle.packet_flow.specs.Entries.{entries_from}
@@ -30,14 +30,15 @@ use Rattle.packet_flow.specs.Numbered.{Numbered, answers_to, numbered}
 use Rattle.packet_flow.specs.Packet.{numbered_view, put_back}
 use Rattle.packet_flow.specs.Passage.{Before, Outside, EndsAs, IsEarly, IsUnderway}
 use Rattle.packet_flow.specs.Reads.{GoesOn, HasRead, IsWholeStop}
-use Rattle.packet_flow.specs.Slots.{StandFor, WaitsAtFront, ops_of, slot_for}
+use Rattle.packet_flow.specs.Slots.{StandFor, ops_of, seat_for}
 use Rattle.packet_flow.specs.Window.{Ahead, IsInRange}
 use Rattle.packet_flow.specs.Writing.{Appends, CutsNext, HasWritten}
 use Rattle.packet_flow.proofs.Answers.{counts_now, cut_now, few_done, split_now, within, counts_first, writes_now}
 use Rattle.packet_flow.proofs.Ends.{begun_first, ends_cut, ends_early, flows_any}
-use Rattle.packet_flow.proofs.InSlots.{length-SlotsSay}
+use Rattle.packet_flow.proofs.InSlots.{length-SeatsSay}
 use Rattle.packet_flow.proofs.Numbers.{entries_behind-one, entries_from-append, length-entries_from}
 use Rattle.packet_flow.proofs.Pushing.{entries_new, fresh_new, stand_more}
+use Rattle.packet_flow.proofs.Rooms.{in_order_more}
 use Rattle.packet_flow.proofs.Rising.{numbered-append, numbered-one, waiting_rises}
 
 -- ---- the first packet that waits is begun, and what is ready is written
@@ -48,14 +49,14 @@ module _ (plan : Plan) (b : Before) (s_tells k_tells : Type 0) (p : Passage) (o 
 
   -- those in slots are among those that were begun
   pub few_slots : length u.done + length p.slots ≡ length u.used
-  few_slots = omega (arith, few_done u.used u.done u.waiting u.split, length-SlotsSay plan p.slots u.waiting u.stand.slots)
+  few_slots = omega (arith, few_done u.used u.done u.waiting u.split, length-SeatsSay plan p.slots u.waiting u.stand.slots)
 
   -- what writing asks for, where the slots stand for the same packets
-  pub few_answers : (ss : List Slot) (es : List (Entry Card)) → StandFor plan u.waiting ss es → (answers : List Answered) × (p.counts ≡ counts_of answers) × (length answers + length ss < 2 ^ 32)
+  pub few_answers : (ss : List Seat) (es : List (Entry Card)) → StandFor plan u.waiting ss es → (answers : List Answered) × (p.counts ≡ counts_of answers) × (length answers + length ss < 2 ^ 32)
   few_answers ss es stand =
-      (answers_to plan u.done, u.counts, omega (arith, few_done u.used u.done u.waiting u.split, length-SlotsSay plan ss u.waiting stand.slots, u.next, u.range.count, u.range.range, length-map u.done (λ (x : Numbered). answered plan x.number x.rec)))
+      (answers_to plan u.done, u.counts, omega (arith, few_done u.used u.done u.waiting u.split, length-SeatsSay plan ss u.waiting stand.slots, u.next, u.range.count, u.range.range, length-map u.done (λ (x : Numbered). answered plan x.number x.rec)))
 
-  module _ (packet : Packet) (w : Ahead) (taken : p.window ≡ put_back packet w) (after : w.next ≡ packet.number + 1) (fits : IsInRange w) (ss : List Slot) (burst : Burst (Op Card)) (made_now : ℕ) (a : AddsSlot plan (numbered_view packet) p.made made_now p.slots ss p.burst burst) where
+  module _ (packet : Packet) (w : Ahead) (taken : p.window ≡ put_back packet w) (after : w.next ≡ packet.number + 1) (fits : IsInRange w) (ss : List Seat) (burst : Burst (Op Card)) (made_now : ℕ) (a : AddsSlot plan b.big (numbered_view packet) p.made made_now p.slots ss p.burst burst) where
     abbrev rec : Rec
     rec = view packet.rec
 
@@ -93,9 +94,9 @@ module _ (plan : Plan) (b : Before) (s_tells k_tells : Type 0) (p : Passage) (o 
         let es : (o.held ++ map entry_of p.burst.ops) ++ map entry_of (ops_of a.work) ≡ entries =
         append_assoc o.held (map entry_of p.burst.ops) (map entry_of (ops_of a.work))
         ∙ ap (λ (l : List (Entry Card)). o.held ++ l) (sym (map-append entry_of p.burst.ops (ops_of a.work)) ∙ ap (map entry_of) (sym ops_are)) in
-        subst (λ (l : List Slot). StandFor plan waiting l entries) (sym a.slots)
-        (subst (StandFor plan waiting (p.slots ++ slot_for packet.number a.work ∷ [])) es
-        (stand_more plan p.made u.waiting (numbered_view packet) p.slots (o.held ++ map entry_of p.burst.ops) a.work (waiting_rises 0 used u.done waiting split) a.begun u.stand))
+        subst (λ (l : List Seat). StandFor plan waiting l entries) (sym a.slots)
+        (subst (StandFor plan waiting (p.slots ++ seat_for packet.number a.work a.order ∷ [])) es
+        (stand_more plan p.made u.waiting (numbered_view packet) p.slots (o.held ++ map entry_of p.burst.ops) a.work a.order (waiting_rises 0 used u.done waiting split) a.begun u.stand))
 
     -- its operation has the next number
     entries_are : entries_from plan 0 used ≡ entries_from plan 0 u.used ++ map log_entry (ops_of a.work)
@@ -130,13 +131,16 @@ module _ (plan : Plan) (b : Before) (s_tells k_tells : Type 0) (p : Passage) (o 
         (subst (λ (at : Place). GoesOn b.big b.bytes (used ++ w.waiting) at o.left p.window.stop) (ap (λ (x : Ahead). x.place) taken)
         (subst (λ (l : List Rec). GoesOn b.big b.bytes l p.window.place o.left p.window.stop) so_far (u.reads told)))
 
+    pub in_order : AllIn b.big ss
+    in_order = subst (AllIn b.big) (sym a.slots) (in_order_more b.big p.slots (seat_for packet.number a.work a.order) a.in_order u.order)
+
     -- what writing asks for
     pub few_now : (answers : List Answered) × (p.counts ≡ counts_of answers) × (length answers + length ss < 2 ^ 32)
     few_now =
-        (answers_to plan u.done, u.counts, omega (arith, few_slots, u.next, u.range.count, u.range.range, ap length waits, ap length a.slots, length-append p.slots (slot_for packet.number a.work ∷ []), length-map u.done (λ (x : Numbered). answered plan x.number x.rec)))
+        (answers_to plan u.done, u.counts, omega (arith, few_slots, u.next, u.range.count, u.range.range, ap length waits, ap length a.slots, length-append p.slots (seat_for packet.number a.work a.order ∷ []), length-map u.done (λ (x : Numbered). answered plan x.number x.rec)))
 
     -- a record was cut
-    pub begun_and_cut : (wrote : List ℕ) (counts : Counts) (now : List Slot) → HasWritten plan waiting entries now p.counts counts (CutsNext plan b.big k_tells o.written wrote)
+    pub begun_and_cut : (wrote : List ℕ) (counts : Counts) (now : List Seat) → HasWritten plan waiting entries now p.counts counts (CutsNext plan b.big k_tells o.written wrote)
         → EndsAs plan b s_tells k_tells WriteFault counts (record o { written = wrote })
     begun_and_cut wrote counts now h =
         let cut = split_now plan used u.done waiting split entries now p.counts counts (CutsNext plan b.big k_tells o.written wrote) h in
@@ -149,9 +153,9 @@ module _ (plan : Plan) (b : Before) (s_tells k_tells : Type 0) (p : Passage) (o 
 
     -- what was ready was written, and the passage is now q
     pub begun_and_written : (wrote : List ℕ) (q : Passage) → q.window ≡ w → q.burst ≡ burst → q.made ≡ made_now → q.back ≡ p.back
-        → HasWritten plan waiting entries q.slots p.counts q.counts (Appends plan b.big k_tells o.written wrote) → WaitsAtFront q.slots
+        → HasWritten plan waiting entries q.slots p.counts q.counts (Appends plan b.big k_tells o.written wrote) → WaitsAtFront q.slots → AllIn b.big q.slots
         → IsUnderway plan b s_tells k_tells q (record o { written = wrote })
-    begun_and_written wrote q window_is burst_is count_is back_is h front =
+    begun_and_written wrote q window_is burst_is count_is back_is h front order =
         let says = Appends plan b.big k_tells o.written wrote in
         record {
           used = used;
@@ -169,6 +173,7 @@ module _ (plan : Plan) (b : Before) (s_tells k_tells : Type 0) (p : Passage) (o 
           few = u.few;
           fresh = subst (All IsFresh) (sym (ap (λ (x : Burst (Op Card)). x.ops) burst_is ∙ ops_are)) (All-append IsFresh p.burst.ops (ops_of a.work) u.fresh (fresh_new plan p.made (numbered_view packet) a.work a.begun));
           front = front;
+          order = order;
           stopped = λ stop is. u.stopped stop (ap (λ (x : Ahead). x.stop) taken ∙ ap (λ (x : Ahead). x.stop) (sym window_is) ∙ is);
           next = omega (arith, ap (λ (x : Ahead). x.next) window_is, after, number_is, length-append u.used (rec ∷ []));
           range = subst IsInRange (sym window_is) fits;
@@ -223,6 +228,7 @@ read_on plan b s_tells k_tells p q o w big left left' wrote result big_is left_i
       few = u.few;
       fresh = u.fresh;
       front = u.front;
+      order = u.order;
       stopped = λ stop is. stopped stop (sym stop_is ∙ is);
       next = next ∙ ap (λ (x : Ahead). x.next) same ∙ u.next;
       range = range;
@@ -242,6 +248,10 @@ stop_read p q w stop more same goes stops behind count range =
 -- what was said of the capture that is written, by its names
 pub said_by : (Says : Bool → List ℕ → Type 0) (big big' : Bool) (old old' : List ℕ) → big ≡ big' → old ≡ old' → Says big' old' → Says big old
 said_by Says big big' old old' big_is old_is says = subst (λ (x : Bool). Says x old) (sym big_is) (subst (Says big') (sym old_is) says)
+
+pub added_in : (plan : Plan) (packet : Packet) (p : Passage) (made : ℕ) (ss : List Seat) (burst : Burst (Op Card)) (big big' : Bool) → big ≡ big'
+    → AddsSlot plan big' (numbered_view packet) p.made made p.slots ss p.burst burst → AddsSlot plan big (numbered_view packet) p.made made p.slots ss p.burst burst
+added_in plan packet p made ss burst big big' is a = subst (λ (x : Bool). AddsSlot plan x (numbered_view packet) p.made made p.slots ss p.burst burst) (sym is) a
 
 -- ---- an end
 

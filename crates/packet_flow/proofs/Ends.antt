@@ -27,7 +27,7 @@ use Rattle.packet_flow.specs.Flowed.{CutAt, Flowed, IsWrittenBy, answer_bytes}
 use Rattle.dev_core.specs.Calls.{Call}
 use Rattle.dev_core.specs.Offers.{Flows, taken_by}
 use Rattle.packet_flow.specs.Passage.{Before, Outside, TellsTaken, IsEarly, IsUnderway, EndsAs}
-use Rattle.packet_flow.proofs.InSlots.{length-SlotsSay}
+use Rattle.packet_flow.proofs.InSlots.{length-SeatsSay}
 use Rattle.packet_flow.proofs.Answers.{answered_from-append, counts_first, few_done, length-answered_from, within, writes_first}
 use Rattle.packet_flow.proofs.Numbers.{entries_behind, entries_behind-none, entries_from-append}
 
@@ -173,7 +173,7 @@ ends_whole plan b s_tells k_tells p o stop u stopped read offered written told t
     subst (GoesOn b.big b.bytes (u.used ++ p.window.waiting) p.window.place o.left) stopped (u.reads told) in
     let so_far : u.used ++ p.window.waiting ≡ u.used = ap (λ (l : List Rec). u.used ++ l) read ∙ append-nil u.used in
     let whole = read_whole u.used rs rest stop (u.stopped stop stopped).0 (subst (λ (l : List Rec). ReadsAs l stop rs rest) so_far (goes rs rest all)) in
-    let left : length p.slots ≡ length u.waiting = length-SlotsSay plan p.slots u.waiting u.stand.slots in
+    let left : length p.slots ≡ length u.waiting = length-SeatsSay plan p.slots u.waiting u.stand.slots in
     let n_is : length u.done ≡ length u.used = omega (arith, few_done u.used u.done u.waiting u.split, left, ap length written) in
     let taken_is : u.taken ≡ entries_from plan 0 rs =
     sym (append-nil u.taken) ∙ ap (λ (l : List (Op Card)). u.taken ++ map log_entry l) (sym offered) ∙ u.queued ∙ ap (entries_from plan 0) (sym whole.0) in

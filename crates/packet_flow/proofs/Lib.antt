@@ -1,5 +1,7 @@
 mod Rising
 mod InSlots
+mod Spelled
+mod Rooms
 mod Bags
 pub mod Answers
 pub mod Numbers

@@ -1,6 +1,6 @@
 -- A packet more gets a slot.
 use Rattle.std.proofs.Common.{◌≡◌, ◌+◌, ◌==◌, ◌++◌, ◌∷◌, ℕ, zero, suc, List, [], length, map, count_by, refl, ap, sym, subst, ◌∙◌}
-use Rattle.std.specs.Prelude.{Some}
+use Rattle.std.specs.Prelude.{Bool, Option, Some}
 use Rattle.std.specs.List.{All, slice_get}
 use Rattle.std.proofs.lemmas.List.{append-nil}
 use Rattle.std.proofs.lemmas.List.Elements.{All-append, All-cons, All-nil, All-weaker}
@@ -11,15 +11,15 @@ use Rattle.dev_core.specs.Burst.{log_entry}
 use Rattle.dev_core.specs.declared.driver.LogEntry.{LogEntry}
 use Rattle.session_file.specs.declared.plan.Plan.{Plan}
 use Rattle.packet_plan.specs.Asked.{Asked, Works, asked, inputs_of}
-use Rattle.packet_plan.specs.Work.{IsBegun}
+use Rattle.packet_plan.specs.Work.{IsBegun, written_view}
 use Rattle.packet_plan.specs.declared.written.Work.{Work}
 use Rattle.packet_plan.specs.declared.written.Work.TheVariants as work
-use Rattle.packet_flow.specs.declared.slots.Slot.{Slot}
+use Rattle.packet_flow.specs.Seats.{Seat}
 use Rattle.packet_flow.specs.Entries.{entries_of, entry_for}
 use Rattle.packet_flow.specs.Numbered.{Numbered, RisesFrom, numbers_of}
-use Rattle.packet_flow.specs.Slots.{IsFor, SlotSays, StandFor, open_numbers, ops_of, slot_for}
+use Rattle.packet_flow.specs.Slots.{IsFor, SeatSays, StandFor, open_numbers, ops_of, seat_for}
 use Rattle.packet_flow.proofs.Bags.{count-append}
-use Rattle.packet_flow.proofs.InSlots.{SlotsSay-push, open_numbers-open, open_numbers-ready}
+use Rattle.packet_flow.proofs.InSlots.{SeatsSay-push, open_numbers-open, open_numbers-ready}
 use Rattle.packet_flow.proofs.Numbers.{entries_of-none, entries_of-one}
 
 longer : {X : Type 0} (xs more : List X) (i : ℕ) (x : X) → slice_get xs i ≡ Some x → slice_get (xs ++ more) i ≡ Some x
@@ -38,22 +38,22 @@ for_new : (plan : Plan) (ps : List Numbered) (p : Numbered) (op : Op Card) → o
     → IsFor plan (ps ++ p ∷ []) (entry_of op)
 for_new plan ps p op number is = record { i = length ps; packet = p; there = last_of ps p; number = sym number; asked = is }
 
-says_new : (plan : Plan) (i : ℕ) (p : Numbered) (w : Work) → IsBegun plan p.number i p.rec w → SlotSays plan (slot_for p.number w) p
-says_new plan i p (work.Ready w) is = (refl, is.0)
-says_new plan i p (work.Needs kept op) is = (refl, is.kept)
+says_new : (plan : Plan) (i : ℕ) (p : Numbered) (w : Work) (order : Option Bool) → IsBegun plan p.number i p.rec w → SeatSays plan (seat_for p.number w order) p
+says_new plan i p (work.Ready w) order is = (refl, is.0)
+says_new plan i p (work.Needs kept op) order is = (refl, is.kept)
 
 -- the slots stand for one packet more, and its operation is waited for too
-pub stand_more : (plan : Plan) (i : ℕ) (ps : List Numbered) (p : Numbered) (ss : List Slot) (es : List (Entry Card)) (w : Work) → RisesFrom 0 (numbers_of (ps ++ p ∷ []))
-    → IsBegun plan p.number i p.rec w → StandFor plan ps ss es → StandFor plan (ps ++ p ∷ []) (ss ++ slot_for p.number w ∷ []) (es ++ map entry_of (ops_of w))
-stand_more plan i ps p ss es (work.Ready w) rises is b =
-    subst (StandFor plan (ps ++ p ∷ []) (ss ++ slot_for p.number (work.Ready w) ∷ [])) (sym (append-nil es)) (record {
-      slots = SlotsSay-push plan ss ps (slot_for p.number (work.Ready w)) p b.slots (says_new plan i p (work.Ready w) is);
+pub stand_more : (plan : Plan) (i : ℕ) (ps : List Numbered) (p : Numbered) (ss : List Seat) (es : List (Entry Card)) (w : Work) (order : Option Bool) → RisesFrom 0 (numbers_of (ps ++ p ∷ []))
+    → IsBegun plan p.number i p.rec w → StandFor plan ps ss es → StandFor plan (ps ++ p ∷ []) (ss ++ seat_for p.number w order ∷ []) (es ++ map entry_of (ops_of w))
+stand_more plan i ps p ss es (work.Ready w) order rises is b =
+    subst (StandFor plan (ps ++ p ∷ []) (ss ++ seat_for p.number (work.Ready w) order ∷ [])) (sym (append-nil es)) (record {
+      slots = SeatsSay-push plan ss ps (seat_for p.number (work.Ready w) order) p b.slots (says_new plan i p (work.Ready w) order is);
       rising = rises;
       made = All-weaker (IsFor plan ps) (IsFor plan (ps ++ p ∷ [])) (for_longer plan ps (p ∷ [])) es b.made;
-      waits = λ m. b.waits m ∙ ap (count_by (λ (k : ℕ). k == m)) (sym (open_numbers-ready ss p.number w));
+      waits = λ m. b.waits m ∙ ap (count_by (λ (k : ℕ). k == m)) (sym (open_numbers-ready ss p.number (written_view w) order));
     })
-stand_more plan i ps p ss es (work.Needs kept op) rises is b = record {
-  slots = SlotsSay-push plan ss ps (slot_for p.number (work.Needs kept op)) p b.slots (says_new plan i p (work.Needs kept op) is);
+stand_more plan i ps p ss es (work.Needs kept op) order rises is b = record {
+  slots = SeatsSay-push plan ss ps (seat_for p.number (work.Needs kept op) order) p b.slots (says_new plan i p (work.Needs kept op) order is);
   rising = rises;
   made = All-append (IsFor plan (ps ++ p ∷ [])) es (entry_of op ∷ [])
       (All-weaker (IsFor plan ps) (IsFor plan (ps ++ p ∷ [])) (for_longer plan ps (p ∷ [])) es b.made)

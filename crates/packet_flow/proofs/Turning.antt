@@ -19,8 +19,7 @@ use Rattle.session_file.specs.declared.plan.Plan.{Plan}
 use Rattle.packet_flow.specs.declared.counts.Counts.{Counts}
 use Rattle.packet_flow.specs.declared.flow.FlowEnd.TheVariants as flow_end
 use Rattle.packet_flow.specs.declared.passage.Passage.{Passage}
-use Rattle.packet_flow.specs.declared.slots.Slot.{Slot}
-use Rattle.packet_flow.specs.declared.slots.Slot.TheVariants.{Open, Ready}
+use Rattle.packet_flow.specs.Seats.{AllIn, Seat, Open, Ready, WaitsAtFront}
 use Rattle.packet_flow.specs.Counts.{counts_of}
 use Rattle.packet_flow.specs.Entries.{entries_from}
 use Rattle.std.proofs.Math.Seq.{take-append_seam, drop-append_seam}
@@ -30,7 +29,7 @@ use Rattle.packet_flow.specs.Turns.{IsAt, OnlyAsked, with_offer}
 use Rattle.packet_flow.specs.Passage.{Before, Outside, TellsTaken, IsFilled, IsUnderway, EndsAs, IsUnbegun}
 use Rattle.packet_flow.specs.Reads.{GoesOn, HasRead, IsWholeStop}
 use Rattle.packet_flow.specs.Numbered.{Numbered}
-use Rattle.packet_flow.specs.Slots.{StandFor, SlotsSay, WaitsAtFront, open_numbers}
+use Rattle.packet_flow.specs.Slots.{StandFor, SeatsSay, open_numbers}
 use Rattle.packet_flow.specs.Window.{Ahead, IsInRange, fresh_window}
 use Rattle.packet_flow.proofs.InSlots.{count-cons, one, same_told}
 use Rattle.packet_flow.proofs.Numbers.{entries_from-none, length-entries_from}
@@ -87,7 +86,7 @@ moved_by n m held held' taken ops enqueued enqueued' within few count is now =
 
 -- ---- what waits at the front is held, or in the burst
 
-front_some : (plan : Plan) (ps : List Numbered) (ss : List Slot) (entries : List (Entry Card)) → WaitsAtFront ss → 0 < length ss
+front_some : (plan : Plan) (ps : List Numbered) (ss : List Seat) (entries : List (Entry Card)) → WaitsAtFront ss → 0 < length ss
     → StandFor plan ps ss entries → 0 < length entries
 unfolding open_numbers
 front_some plan ps [] entries waits some b = absurd (omega (arith, some))
@@ -95,9 +94,9 @@ front_some plan ps (Open n kept ∷ ss) entries waits some b =
     let own = count-cons (λ (x : ℕ). x == n) n (open_numbers ss) in
     let once : one (n == n) ≡ 1 = ap one (same_told n) in
     omega (arith, own, once, b.waits n, count_by-le-length (λ (e : Entry Card). e.cargo.packet == n) entries)
-front_some plan ps (Ready n w ∷ ss) entries waits some b = absurd waits
+front_some plan ps (Ready n a order ∷ ss) entries waits some b = absurd waits
 
-pub some_moves : {X : Type 0} (f : X → Entry Card) (plan : Plan) (ps : List Numbered) (ss : List Slot) (held : List (Entry Card)) (ops : List X) → WaitsAtFront ss → 0 < length ss
+pub some_moves : {X : Type 0} (f : X → Entry Card) (plan : Plan) (ps : List Numbered) (ss : List Seat) (held : List (Entry Card)) (ops : List X) → WaitsAtFront ss → 0 < length ss
     → StandFor plan ps ss (held ++ map f ops) → 0 < length held + length ops
 some_moves f plan ps ss held ops waits some b =
     omega (arith, front_some plan ps ss (held ++ map f ops) waits some b, length-append held (map f ops), length-map ops f)
@@ -180,11 +179,11 @@ ends_unbegun plan b s_tells k_tells o counts no_call device written same told te
   subst (Flows b.size (entries_from plan 0 rs)) (sym no_call) tt,
 )
 
-none_stand : (plan : Plan) (ss : List Slot) (entries : List (Entry Card)) → ss ≡ [] → entries ≡ [] → StandFor plan [] ss entries
-unfolding SlotsSay open_numbers
+none_stand : (plan : Plan) (ss : List Seat) (entries : List (Entry Card)) → ss ≡ [] → entries ≡ [] → StandFor plan [] ss entries
+unfolding SeatsSay open_numbers
 none_stand plan ss entries ss_are entries_are =
     let none : StandFor plan [] [] [] = record { slots = tt; rising = tt; made = λ k d lt. absurd (omega (arith, lt)); waits = λ n. refl } in
-    subst (λ (l : List Slot). StandFor plan [] l entries) (sym ss_are) (subst (StandFor plan [] []) (sym entries_are) none)
+    subst (λ (l : List Seat). StandFor plan [] l entries) (sym ss_are) (subst (StandFor plan [] []) (sym entries_are) none)
 
 none_read : (big : Bool) (bytes left : List ℕ) (w : Ahead) → w ≡ fresh_window → left ≡ bytes → GoesOn big bytes ([] ++ w.waiting) w.place left w.stop
 none_read big bytes left w is left_is =
@@ -212,6 +211,7 @@ new_underway plan b s_tells k_tells size p o some size_is no_call new device lef
       few = omega (arith, ap length held);
       fresh = subst (All IsFresh) (sym burst) (λ k d lt. absurd (omega (arith, lt)));
       front = subst WaitsAtFront (sym new.slots) tt;
+      order = subst (AllIn b.big) (sym new.slots) (λ k d lt. absurd (omega (arith, lt)));
       stopped = λ stop is. absurd (let no : Some stop ≡ None = sym is ∙ ap (λ (x : Ahead). x.stop) new.window in cc);
       next = ap (λ (x : Ahead). x.next) new.window;
       range = subst IsInRange (sym new.window) (record { count = omega arith; range = omega arith });

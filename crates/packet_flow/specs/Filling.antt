@@ -1,5 +1,5 @@
 -- How records are begun.
-use Rattle.std.specs.Prelude.{◌≡◌, ◌+◌, ◌*◌, ◌-◌, ◌^◌, ◌++◌, ◌∷◌, ℕ, List, [], length, Option, Some, None}
+use Rattle.std.specs.Prelude.{◌≡◌, ◌+◌, ◌*◌, ◌-◌, ◌^◌, ◌++◌, ◌∷◌, ℕ, Bool, List, [], length, Option, Some, None}
 use Rattle.crypto_op.specs.declared.spec.Card.{Card}
 use Rattle.crypto_op.specs.declared.op.Op.{Op}
 use Rattle.crypto_op.specs.Burst.{Burst}
@@ -9,16 +9,18 @@ use Rattle.packet_plan.specs.Work.{IsBegun}
 use Rattle.packet_plan.specs.declared.written.Work.{Work}
 use Rattle.capture_io.specs.declared.header.ReadStop.{ReadStop}
 use Rattle.packet_flow.specs.declared.passage.Passage.{Passage}
-use Rattle.packet_flow.specs.declared.slots.Slot.{Slot}
+use Rattle.packet_flow.specs.Seats.{Seat, IsIn}
 use Rattle.packet_flow.specs.Numbered.{Numbered}
-use Rattle.packet_flow.specs.Slots.{ops_of, slot_for}
+use Rattle.packet_flow.specs.Slots.{ops_of, seat_for}
 
--- The packet got the next slot, and the burst its operation, if it needs one. Before, i operations were made, and now i'.
-pub record AddsSlot (plan : Plan) (p : Numbered) (i i' : ℕ) (ss ss' : List Slot) (old new : Burst (Op Card)) : Type 0 where
+-- The packet got the next place, and the burst its operation, if it needs one. Before, i operations were made, and now i'.
+pub record AddsSlot (plan : Plan) (big : Bool) (p : Numbered) (i i' : ℕ) (ss ss' : List Seat) (old new : Burst (Op Card)) : Type 0 where
   pub work : Work
+  pub order : Option Bool
+  pub in_order : IsIn big (seat_for p.number work order)
   pub begun : IsBegun plan p.number i p.rec work
   pub count : i' ≡ i + length (ops_of work)
-  pub slots : ss' ≡ ss ++ slot_for p.number work ∷ []
+  pub slots : ss' ≡ ss ++ seat_for p.number work order ∷ []
   pub burst : new ≡ with_ops (ops_of work) old
 
 -- A measure of what is left to begin: records that may still be read count twice, and the end of reading once.

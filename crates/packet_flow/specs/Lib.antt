@@ -3,6 +3,10 @@ pub mod Counts
 pub mod Numbered
 pub mod Window
 pub mod Packet
+pub mod Seats
+pub mod Marks
+pub mod Runs
+pub mod Laid
 pub mod Slots
 pub mod Turns
 pub mod Entries

@@ -20,7 +20,8 @@ use Rattle.packet_flow.specs.Flowed.{EndsWhole, Flowed, answer_bytes}
 use Rattle.capture_io.specs.declared.header.ReadStop.{ReadStop}
 use Rattle.packet_flow.specs.Reads.{GoesOn, IsWholeStop}
 use Rattle.packet_flow.specs.Numbered.{Numbered, answers_to, numbered}
-use Rattle.packet_flow.specs.Slots.{StandFor, WaitsAtFront}
+use Rattle.packet_flow.specs.Slots.{StandFor}
+use Rattle.packet_flow.specs.Seats.{AllIn, WaitsAtFront}
 use Rattle.packet_flow.specs.Window.{IsInRange, fresh_window}
 
 -- what there was before the first packet: the capture behind its header, what was written, the driver's log, and the
@@ -71,6 +72,7 @@ pub record IsUnderway (plan : Plan) (b : Before) (s_tells k_tells : Type 0) (p :
   pub few : length o.held ≤ length taken
   pub fresh : All IsFresh p.burst.ops
   pub front : WaitsAtFront p.slots
+  pub order : AllIn b.big p.slots
   pub stopped : (stop : ReadStop) → p.window.stop ≡ Some stop → IsWholeStop stop × (s_tells → stop ≡ ReadStop.End → o.left ≡ [])
   pub next : p.window.next ≡ length used
   pub range : IsInRange p.window

@@ -6,15 +6,15 @@ use Rattle.crypto_op.specs.Op.{Entry}
 use Rattle.capture_io.specs.Pieces.{AppendsPart}
 use Rattle.session_file.specs.declared.plan.Plan.{Plan}
 use Rattle.packet_plan.specs.Answered.{Answered, answered}
-use Rattle.packet_flow.specs.declared.slots.Slot.{Slot}
+use Rattle.packet_flow.specs.Seats.{Seat}
 use Rattle.packet_flow.specs.declared.counts.Counts.{Counts}
 use Rattle.packet_flow.specs.Counts.{counts_of}
 use Rattle.packet_flow.specs.Flowed.{answer_bytes}
 use Rattle.packet_flow.specs.Numbered.{Numbered, answers_to}
 use Rattle.packet_flow.specs.Slots.{StandFor}
 
--- Of these packets some in front are written and counted, and the slots stand for the others.
-pub record HasWritten (plan : Plan) (ps : List Numbered) (entries : List (Entry Card)) (ss : List Slot) (before after : Counts)
+-- Of these packets some in front are written and counted, and the places are for the others.
+pub record HasWritten (plan : Plan) (ps : List Numbered) (entries : List (Entry Card)) (ss : List Seat) (before after : Counts)
     (Says : (gone left : List Numbered) → Type 0) : Type 0 where
   pub gone : List Numbered
   pub left : List Numbered

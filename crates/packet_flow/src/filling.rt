@@ -20,21 +20,24 @@ use std::alloc::Global;
 
 // Begins a packet: it gets the next slot and, where it needs one, an operation of the burst, whose number is how many
 // were made before.
-fn begin(
+fn begin<P: SegStore>(
     alloc: Global,
+    store: &mut P,
     plan: &ReadyPlan,
+    header: &Header,
     packet: Packet,
     made: &mut u64,
     slots: &mut Slots,
     burst: &mut OpBurst<Card>,
 ) -> Result<(), OutOfMemory>
+    requires endless { P.endless }
     requires small { IsSmall packet.rec }
     requires few { made.old < 2 ^ 32 }
     requires room { length burst.old.ops < burst.old.cap }
-    ensures { OnOk result (AddsSlot plan.now (numbered_view packet) made.old made.new slots.old slots.new burst.old burst.new) }
+    ensures { OnOk result (AddsSlot plan.now header.now.big (numbered_view packet) made.old made.new slots.old slots.new burst.old burst.new) }
 {
-    let work = plan.begin(alloc, packet.number, *made, packet.rec)?;
-    if let Some(op) = slots.push(packet.number, work)? {
+    let work = plan.begin(alloc, store, packet.number, *made, packet.rec)?;
+    if let Some(op) = slots.push(alloc, store, header, packet.number, work)? {
         burst.push(op);
         *made += 1;
     }
@@ -85,13 +88,17 @@ fn advance<S: Source, P: SegStore, K: Sink>(
     };
     begin(
         alloc,
+        store,
         plan,
+        header,
         packet,
         &mut passage.made,
         &mut passage.slots,
         &mut passage.burst,
     )?;
-    passage.slots.write_ready(out, header, &mut passage.counts)?;
+    passage
+        .slots
+        .write_ready(out, store, header, &mut passage.counts)?;
     Ok(())
 }
 

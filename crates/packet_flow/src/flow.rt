@@ -108,13 +108,18 @@ fn step<S: Source, P: SegStore, K: Sink, D: Driver<Card>>(
         };
     }
     let (accepted, returned) = turn(
+        alloc,
+        store,
+        header,
         plan,
         dev,
         &mut passage.burst,
         &mut passage.slots,
         &mut passage.back,
     );
-    passage.slots.write_ready(out, header, &mut passage.counts)?;
+    passage
+        .slots
+        .write_ready(out, store, header, &mut passage.counts)?;
     Ok(accepted as u64 + returned as u64)
 }
 
@@ -134,7 +139,7 @@ pub struct Flow {
 
 /// Sends the packets of a capture, behind its header, through a driver: the plan makes operations of them, numbered
 /// from 0, which are offered in bursts, the rest of a burst before a new one is begun, and the records are written in their
-/// order as soon as they are answered. Their segments come from the store. The driver holds nothing, and has the plan's
+/// order as soon as they are answered. Their segments come from the store, and go back there. The driver holds nothing, and has the plan's
 /// sessions.
 ///
 /// A turn that moves nothing is one in which the driver stalled. It may do so `PATIENCE` times, and as often again for each

@@ -3,7 +3,8 @@
 //! [`transfer`] reads a [`Window`] of records. Each packet that is begun gets one of the [`Slots`], in the order of the
 //! capture. A packet that needs no operation is ready at once. For any other an operation joins the burst, which is
 //! offered to the driver once in a turn. What comes back, in whatever order, is put into the slot that waits for it by
-//! the packet's number on its card, and the records at the front that are ready are written.
+//! the packet's number on its card, and the records at the front that are ready are written. Those that are ready behind
+//! one that isn't are kept as the bytes that will be written.
 //!
 //! So after each turn, in a capture of eight packets:
 //!
@@ -42,7 +43,9 @@
 mod counts;
 mod filling;
 mod flow;
+mod mark;
 mod passage;
+mod run;
 mod slots;
 mod turn;
 mod window;

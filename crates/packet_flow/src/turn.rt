@@ -10,13 +10,17 @@ ghost use Rattle.dev_core.specs.Calls.{Call, Ran};
 ghost use Rattle.dev_core.specs.Offers.{IsDrained};
 ghost use Rattle.packet_plan.specs.Asked.{sessions_of};
 ghost use Rattle.packet_flow.specs.Numbered.{Numbered};
+ghost use Rattle.packet_flow.specs.Seats.{AllIn};
 ghost use Rattle.packet_flow.specs.Slots.{StandFor};
 ghost use Rattle.packet_flow.specs.Turns.{NeverIdle, OnlyAsked, with_offer};
 
 use crate::slots::Slots;
+use capture_io::Header;
 use crypto_op::{Card, OpBurst};
 use dev_core::Driver;
+use mbuf_chain::SegStore;
 use packet_plan::ReadyPlan;
+use std::alloc::Global;
 
 // Offers the burst once, unless it is empty, and says how many operations were accepted.
 fn offer<D: Driver<Card>>(dev: &mut D, burst: &mut OpBurst<Card>) -> usize
@@ -42,7 +46,10 @@ fn offer<D: Driver<Card>>(dev: &mut D, burst: &mut OpBurst<Card>) -> usize
 }
 
 // Takes back what comes back now, and says how many operations that were.
-fn drain<D: Driver<Card>>(
+fn drain<P: SegStore, D: Driver<Card>>(
+    alloc: Global,
+    store: &mut P,
+    header: &Header,
     plan: &ReadyPlan,
     dev: &mut D,
     slots: &mut Slots,
@@ -55,6 +62,7 @@ fn drain<D: Driver<Card>>(
     requires stand { (ps : List Numbered) × (rest : List (Entry Card)) × StandFor plan.now ps slots.old (D.held dev.old ++ rest) }
     ensures stand { (ps : List Numbered) (rest : List (Entry Card)) → StandFor plan.now ps slots.old (D.held dev.old ++ rest)
         → StandFor plan.now ps slots.new (D.held dev.new ++ rest) }
+    ensures order { AllIn header.now.big slots.old → AllIn header.now.big slots.new }
     ensures count { result + length (D.held dev.new) ≡ length (D.held dev.old) }
     ensures emptied { back.new ≡ back.old }
     ensures cause { result ≡ 0 → 0 < length (D.held dev.old) → Rose (D.stalls dev.old) (D.stalls dev.new) }
@@ -70,7 +78,7 @@ fn drain<D: Driver<Card>>(
     let mut all = 0;
     loop {
         let n = dev.dequeue_burst(back, size);
-        slots.settle_all(plan, back);
+        slots.settle_all(alloc, store, header, plan, back);
         all += n;
         if n < size {
             return all;
@@ -80,7 +88,10 @@ fn drain<D: Driver<Card>>(
 
 /// Offers the burst once, unless it is empty, and takes back what comes back: how many operations were accepted, and how
 /// many returned.
-pub(crate) fn turn<D: Driver<Card>>(
+pub(crate) fn turn<P: SegStore, D: Driver<Card>>(
+    alloc: Global,
+    store: &mut P,
+    header: &Header,
     plan: &ReadyPlan,
     dev: &mut D,
     burst: &mut OpBurst<Card>,
@@ -97,6 +108,7 @@ pub(crate) fn turn<D: Driver<Card>>(
     requires stand { (ps : List Numbered) × StandFor plan.now ps slots.old (D.held dev.old ++ map entry_of burst.old.ops) }
     ensures stand { (ps : List Numbered) → StandFor plan.now ps slots.old (D.held dev.old ++ map entry_of burst.old.ops)
         → StandFor plan.now ps slots.new (D.held dev.new ++ map entry_of burst.new.ops) }
+    ensures order { AllIn header.now.big slots.old → AllIn header.now.big slots.new }
     ensures within { result.0 ≤ length burst.old.ops }
     ensures rest { burst.new ≡ rest_of result.0 burst.old }
     ensures count { result.1 + length (D.held dev.new) ≡ length (D.held dev.old) + result.0 }
@@ -111,6 +123,6 @@ pub(crate) fn turn<D: Driver<Card>>(
     ensures follows { D.follows dev.old dev.new }
 {
     let accepted = offer(dev, burst);
-    let returned = drain(plan, dev, slots, back);
+    let returned = drain(alloc, store, header, plan, dev, slots, back);
     (accepted, returned)
 }

@@ -1,7 +1,6 @@
 pub mod Begun
 pub mod Choices
 pub mod Finished
-pub mod Packets
 pub mod SoundPlans
 pub mod UsableSessions
 pub mod Ways

@@ -17,7 +17,7 @@ use crate::written::{Fate, Kept, Work, Written};
 use capture_io::{MAX_CAPTURED, Record};
 use crypto_model::{OutOfMemory, SessId, Status};
 use crypto_op::{Card, Op};
-use mbuf_chain::Mbuf;
+use mbuf_chain::{Mbuf, SegStore};
 use std::alloc::Global;
 use std::snapshot::Snapshot;
 
@@ -33,12 +33,14 @@ pub(crate) struct Errand {
 }
 
 // The operation for a packet that is long enough.
-fn operation(
+fn operation<P: SegStore>(
     alloc: Global,
+    store: &mut P,
     way: &SessionWay,
     errand: Errand,
     packet: Mbuf,
 ) -> Result<Op<Card>, OutOfMemory>
+    requires endless { P.endless }
     requires long { is_too_short way.now.way errand.skip (length (packet_of packet)) ≡ false }
     requires captured { length (packet_of packet) ≤ MAX_CAPTURED }
     requires segments { length packet ≤ 129 }
@@ -50,17 +52,19 @@ fn operation(
     ensures cargo { IfOk result (λ op. op.cargo ≡ errand.card) }
 {
     let spec = way.spec(alloc, errand, &packet)?;
-    let packet = with_room(alloc, packet, way.way.room())?;
+    let packet = with_room(store, packet, way.way.room())?;
     Ok(Op::new(spec, packet, errand.card))
 }
 
 /// Begins a record for which a session is chosen.
-pub(crate) fn begun(
+pub(crate) fn begun<P: SegStore>(
     alloc: Global,
+    store: &mut P,
     way: &SessionWay,
     errand: Errand,
     rec: Record,
 ) -> Result<Work, OutOfMemory>
+    requires endless { P.endless }
     requires small { IsSmall rec }
     requires digest { way.now.way.digest_len ≤ 64 }
     requires aad { IsTrue way.now.way.aead → errand.skip ≤ 255 }
@@ -80,7 +84,7 @@ pub(crate) fn begun(
         len,
         read: Snapshot::of(&rec.packet),
     };
-    let op = operation(alloc, way, errand, rec.packet)?;
+    let op = operation(alloc, store, way, errand, rec.packet)?;
     Ok(Work::Needs(kept, op))
 }
 

@@ -19,6 +19,7 @@ use crate::written::{Fate, Kept, Work, Written};
 use capture_io::Record;
 use crypto_model::OutOfMemory;
 use crypto_op::{Card, Op};
+use mbuf_chain::SegStore;
 use session_file::{Choice, Named, Plan};
 use std::alloc::Global;
 use std::marker::Model;
@@ -87,8 +88,17 @@ impl ReadyPlan {
     }
 
     /// Begins record `n`. Where the plan chooses a session and the packet is long enough, this makes an
-    /// operation, which gets the number `pos`. The record is dropped where memory is wanting.
-    pub fn begin(&self, alloc: Global, n: u32, pos: u64, rec: Record) -> Result<Work, OutOfMemory>
+    /// operation, which gets the number `pos`. A segment that is appended for its digest comes from `store`. The record
+    /// is dropped where memory is wanting.
+    pub fn begin<P: SegStore>(
+        &self,
+        alloc: Global,
+        store: &mut P,
+        n: u32,
+        pos: u64,
+        rec: Record,
+    ) -> Result<Work, OutOfMemory>
+        requires endless { P.endless }
         requires small { IsSmall rec }
         ensures { IfOk result (IsBegun self.now n pos (view rec)) }
     {
@@ -109,7 +119,7 @@ impl ReadyPlan {
                     card,
                     pos,
                 };
-                begun(alloc, &self.ways[session.0 as usize], errand, rec)
+                begun(alloc, store, &self.ways[session.0 as usize], errand, rec)
             }
         }
     }

@@ -4,8 +4,7 @@ ghost use Rattle.mbuf_chain.specs.Chain.{packet_of};
 
 use crypto_model::OutOfMemory;
 use crypto_op::Aad;
-use mbuf_chain::{AddRefused, Mbuf, NoTailroom};
-use seg_list::Seg;
+use mbuf_chain::{AddRefused, Mbuf, NoTailroom, SegStore, give_seg, take_seg};
 use std::alloc::Global;
 
 /// The packet's first `n` bytes.
@@ -19,8 +18,13 @@ pub(crate) fn leading(alloc: Global, packet: &Mbuf, n: usize) -> Result<Aad, Out
     Aad::copy(alloc, &bytes[..n])
 }
 
-/// The packet with `n` zeros behind it, in a new segment where the last one has too little room.
-pub(crate) fn with_room(alloc: Global, packet: Mbuf, n: usize) -> Result<Mbuf, OutOfMemory>
+/// The packet with `n` zeros behind it, in a segment of the store where the last one has too little room.
+pub(crate) fn with_room<P: SegStore>(
+    store: &mut P,
+    packet: Mbuf,
+    n: usize,
+) -> Result<Mbuf, OutOfMemory>
+    requires endless { P.endless }
     requires segments { length packet < 256 }
     requires few { n ≤ 2048 }
     ensures { IfOk result (λ m. packet_of m ≡ packet_of packet ++ replicate n 0) }
@@ -29,11 +33,18 @@ pub(crate) fn with_room(alloc: Global, packet: Mbuf, n: usize) -> Result<Mbuf, O
     let Err(NoTailroom) = packet.append(n) else {
         return Ok(packet);
     };
-    let mut seg = Seg::new(alloc, 0)?;
-    seg.set(0, n);
+    let seg = take_seg(store)?;
+    let _whole = seg.off();
     match packet.add_seg(seg) {
-        Ok(()) => Ok(packet),
-        Err(AddRefused::OutOfMemory(_)) => Err(OutOfMemory),
+        Ok(()) => {}
+        Err(AddRefused::OutOfMemory(seg)) => {
+            give_seg(store, seg);
+            return Err(OutOfMemory);
+        }
         Err(AddRefused::TooManySegs(_)) => unreachable!(),
+    }
+    match packet.append(n) {
+        Ok(()) => Ok(packet),
+        Err(NoTailroom) => unreachable!(),
     }
 }

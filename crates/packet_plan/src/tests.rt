@@ -3,7 +3,7 @@ use aes_core::Key;
 use capture_io::Record;
 use crypto_model::{DigestPlace, Range, slow_encrypt};
 use crypto_op::{Card, Op};
-use mbuf_chain::Mbuf;
+use mbuf_chain::{FreshSegs, Mbuf};
 use seg_list::Seg;
 use session_file::parse;
 use std::alloc::Global;
@@ -49,7 +49,7 @@ fn begin(alloc: Global, plan: &ReadyPlan, len: usize) -> Result<Work, Fail> {
     if 2048 < rec.packet.len() || 1 < rec.packet.seg_count() || 3000 < rec.orig {
         return Err("not the record".into());
     }
-    Ok(plan.begin(alloc, NUMBER, POS, rec)?)
+    Ok(plan.begin(alloc, &mut FreshSegs::new(alloc), NUMBER, POS, rec)?)
 }
 
 fn operation(alloc: Global, plan: &ReadyPlan, len: usize) -> Result<Op<Card>, Fail> {

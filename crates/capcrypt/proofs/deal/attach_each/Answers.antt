@@ -1,4 +1,4 @@
-use Rattle.std.proofs.Common.{◌≡◌, ◌<◌, Err, ap, get_or, sym, subst, arith}
+use Rattle.std.proofs.Common.{◌≡◌, Err, ap, get_or, sym, subst, arith}
 use Rattle.sched_core.specs.Stopped.{Stopped}
 use Rattle.sched_core.proofs.Dealt.{some_at}
 use Rattle.capcrypt.proofs.deal.attach_each.Goals as goal

@@ -1,4 +1,4 @@
-use Rattle.std.proofs.Common.{◌≡◌, ℕ, ◌+◌, ◌<◌, ◌≤◌, List, length, map, take, drop, ap, sym, subst, ◌∙◌, refl, arith}
+use Rattle.std.proofs.Common.{◌≡◌, ◌≤◌, List, length, map, drop, ap, sym, subst, ◌∙◌, refl, arith}
 use Rattle.std.specs.Arc.{arc_value}
 use Rattle.capture_io.specs.Capture.{Holds}
 use Rattle.packet_flow.specs.Entries.{entries_from}
@@ -6,7 +6,7 @@ use Rattle.packet_flow.proofs.Numbers.{entries_from-numbered}
 use Rattle.sched_core.specs.Stopped.{Stopped}
 use Rattle.sched_modes.specs.Running.{pool_of}
 use Rattle.capcrypt.specs.Dealing.{Dealing, Scheduled, dealing_of, workers_of}
-use Rattle.capcrypt.specs.Devices.{DeviceNow, HaveStalledOut, device_now}
+use Rattle.capcrypt.specs.Devices.{HaveStalledOut, device_now}
 use Rattle.capcrypt.specs.Ran.{Job}
 use Rattle.capcrypt.specs.Start.{Begins, settings_of}
 use Rattle.capcrypt.proofs.Dealt.{dealt_served, dealt_stalled, dealt_whole, most_eight, ready_at, unused}

@@ -1,7 +1,7 @@
-use Rattle.std.proofs.Common.{◌≡◌, ℕ, ◌+◌, ◌<◌, List, length, get_or, set, drop, ap, sym, subst, ◌∙◌, arith}
+use Rattle.std.proofs.Common.{◌≡◌, ◌+◌, ◌<◌, length, get_or, ap, sym, subst, ◌∙◌, arith}
 use Rattle.std.proofs.lemmas.List.{length-set, drop-set-lt}
 use Rattle.sched_modes.proofs.Held.{same_at, up_to}
-use Rattle.capcrypt.specs.Devices.{DeviceNow, device_now}
+use Rattle.capcrypt.specs.Devices.{device_now}
 use Rattle.capcrypt.specs.Served.{WasSetUp}
 use Rattle.capcrypt.proofs.Lists.{further_behind, same_behind}
 use Rattle.capcrypt.proofs.ready.set_up_each.Goals as goal

@@ -1,14 +1,19 @@
-use Rattle.std.proofs.Common.{◌≡◌, ◌≤◌, map, Some, Ok, ap, subst, ◌∙◌, arith}
+use Rattle.std.proofs.Common.{◌≡◌, map, Some, Ok, ap, refl, subst, ◌∙◌, arith}
 use Rattle.std.specs.Prelude.{string_bytes}
-use Rattle.command_words.specs.Asked.{wanted}
 use Rattle.command_words.specs.Gives.{IsLegalIfCrypt, RunsOnOneThread, command_view}
 use Rattle.command_words.specs.declared.command.Command.{Command}
 use Rattle.sched_core.specs.declared.text.SchedText.{SchedText}
-use Rattle.capcrypt.proofs.Asked.{few_workers, least_one}
+use Rattle.sched_core.specs.declared.mode.Mode.TheVariants.{MultiCore, RoundRobin}
+use Rattle.capcrypt.specs.Start.{stated_scheduler}
+use Rattle.capcrypt.proofs.Asked.{few_workers, least_one, two_devices}
 use Rattle.capcrypt.proofs.start.begin.Goals as goal
 
 same_text : (a b : SchedText) → Some a ≡ Some b → a ≡ b
 same_text a b e = cc
+
+stated_runs : RunsOnOneThread stated_scheduler
+unfolding lib.Count.ones
+stated_runs = record { schedulable = record { least = omega arith; most = omega arith; threshold = refl }; mode = λ e. absurd (let no : RoundRobin ≡ MultiCore = e in cc) }
 
 pub returns-in_ok-plan-in-Ok-Crypt-2-clause-legal : goal.returns-in_ok-plan-in-Ok-Crypt-2-clause-legal
 returns-in_ok-plan-in-Ok-Crypt-2-clause-legal g c some =
@@ -20,4 +25,14 @@ returns-in_ok-plan-in-Ok-Crypt-2-clause-legal g c some =
       burst = legal.burst;
       devices = (omega (arith, legal.scheduler.schedulable.least, least_one crypt.scheduler.mode), few);
       legal = λ text is. subst RunsOnOneThread (same_text crypt.scheduler text is) legal.scheduler;
+    }
+
+pub returns-in_ok-plan-in-Ok-Gen-2-clause-legal : goal.returns-in_ok-plan-in-Ok-Gen-2-clause-legal
+returns-in_ok-plan-in-Ok-Gen-2-clause-legal g c some =
+    let gen = c.in-Ok-Gen.generated in
+    let said = c.in-Ok-Gen.ensures.value ∙ ap (λ (x : Command). Ok (command_view x)) c.in-Ok-Gen.field-0-is in
+    record {
+      burst = (omega arith, omega arith);
+      devices = (omega arith, two_devices (map string_bytes c.args.words.now) c.args.devices gen.packets gen.number said);
+      legal = λ text is. subst RunsOnOneThread (same_text stated_scheduler text is) stated_runs;
     }

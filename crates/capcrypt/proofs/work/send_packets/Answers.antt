@@ -1,4 +1,4 @@
-use Rattle.std.proofs.Common.{◌≡◌, List, ℕ, sym, subst}
+use Rattle.std.proofs.Common.{List, ℕ, sym, subst}
 use Rattle.capture_io.specs.Capture.{Holds}
 use Rattle.capcrypt.specs.Start.{Begins, settings_of}
 use Rattle.capcrypt.specs.Ran.{HasAppended}

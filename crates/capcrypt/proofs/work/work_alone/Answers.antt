@@ -1,9 +1,9 @@
-use Rattle.std.proofs.Common.{◌≡◌, ℕ, ◌+◌, ◌<◌, ◌≤◌, List, [], ◌∷◌, length, map, set, get_or, drop, ap, sym, subst, ◌∙◌, refl, arith}
+use Rattle.std.proofs.Common.{◌≡◌, ◌<◌, List, length, map, set, drop, ap, sym, subst, ◌∙◌, refl, arith}
 use Rattle.std.proofs.lemmas.List.{get_or-set_same}
 use Rattle.capture_io.specs.Capture.{Holds}
 use Rattle.packet_flow.specs.Entries.{entries_from}
 use Rattle.capcrypt.specs.Dealing.{Alone, Dealing, dealing_of, workers_of}
-use Rattle.capcrypt.specs.Devices.{DeviceNow, HasStalledOut, HaveStalledOut, device_now}
+use Rattle.capcrypt.specs.Devices.{HasStalledOut, HaveStalledOut, device_now}
 use Rattle.capcrypt.specs.Ran.{IsDriven, Job}
 use Rattle.capcrypt.specs.Served.{WasSetUp}
 use Rattle.capcrypt.specs.Start.{Begins, settings_of}

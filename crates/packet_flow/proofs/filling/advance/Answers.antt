@@ -1,4 +1,4 @@
-use Rattle.std.proofs.Common.{◌≡◌, ℕ, List, ap, sym, subst, refl, ◌∙◌, arith}
+use Rattle.std.proofs.Common.{◌≡◌, ℕ, Bool, List, ap, sym, subst, refl, ◌∙◌, arith}
 use Rattle.std.specs.Prelude.{Some}
 use Rattle.std.proofs.lemmas.Result.{err_from_is_err_and}
 use Rattle.capture_io.specs.declared.header.ReadStop.{ReadStop}
@@ -6,8 +6,9 @@ use Rattle.capture_io.specs.declared.header.ReadStop.TheVariants as read_stop
 use Rattle.packet_flow.specs.declared.flow.FlowEnd.TheVariants.{Stopped, WriteFault, OutOfMemory}
 use Rattle.packet_flow.specs.declared.passage.Passage.{Passage}
 use Rattle.packet_flow.specs.Passage.{IsUnderway}
+use Rattle.packet_flow.specs.Seats.{AllIn}
 use Rattle.packet_flow.specs.Writing.{Appends, CutsNext, HasWritten}
-use Rattle.packet_flow.proofs.Begun.{begun_and_cut, begun_and_written, ended_early, entries, few_made, few_now, if_err_is, none_stopped, read_on, said_by, stand, stop_read, waiting, whole_stop}
+use Rattle.packet_flow.proofs.Begun.{added_in, begun_and_cut, begun_and_written, ended_early, entries, few_made, few_now, if_err_is, in_order, none_stopped, read_on, said_by, stand, stop_read, waiting, whole_stop}
 use Rattle.packet_flow.proofs.filling.advance.Goals as goal
 
 pub returns-in_default-read-clause-underway : goal.returns-in_default-read-clause-underway
@@ -68,9 +69,16 @@ returns-in_err-begin-clause-ends g c b o big left wrote u =
 pub write_ready-requires : goal.write_ready-requires
 write_ready-requires g c =
     let r = c.requires.underway in
+    let p = c.args.passage.now in
+    let plan = c.args.plan.now in
+    let packet = c.in-Some.packet in
+    let w = c.take.new.self in
+    let given = c.in-Some.ensures.given in
+    let begun = added_in plan packet p c.begin.new.made c.begin.new.slots c.begin.new.burst r.0.big c.args.header.now.big r.2 c.in_ok-begin.ensures in
     record {
-      few = few_now c.args.plan.now r.0 g.S.Source.tells g.K.Sink.tells c.args.passage.now r.1 r.5 c.in-Some.packet c.take.new.self c.in-Some.ensures.given.0 c.in-Some.ensures.given.1 c.take.ensures.range
-          c.begin.new.slots c.begin.new.burst c.begin.new.made c.in_ok-begin.ensures;
+      few = few_now plan r.0 g.S.Source.tells g.K.Sink.tells p r.1 r.5 packet w given.0 given.1 c.take.ensures.range c.begin.new.slots c.begin.new.burst c.begin.new.made begun;
+      order = subst (λ (x : Bool). AllIn x c.begin.new.slots) r.2
+          (in_order plan r.0 g.S.Source.tells g.K.Sink.tells p r.1 r.5 packet w given.0 given.1 c.take.ensures.range c.begin.new.slots c.begin.new.burst c.begin.new.made begun);
     }
 
 pub returns-in_err-write_ready-clause-ends : goal.returns-in_err-write_ready-clause-ends
@@ -82,7 +90,7 @@ returns-in_err-write_ready-clause-ends g c b o big left wrote u =
     let packet = c.in-Some.packet in
     let w = c.take.new.self in
     let given = c.in-Some.ensures.given in
-    let begun = c.in_ok-begin.ensures in
+    let begun = added_in plan packet p c.begin.new.made c.begin.new.slots c.begin.new.burst b.big c.args.header.now.big big c.in_ok-begin.ensures in
     let new = g.K.Sink.written c.write_ready.new.out in
     let all = waiting plan b s_tells k_tells p o u packet w given.0 given.1 c.take.ensures.range c.begin.new.slots c.begin.new.burst c.begin.new.made begun in
     let es = entries plan b s_tells k_tells p o u packet w given.0 given.1 c.take.ensures.range c.begin.new.slots c.begin.new.burst c.begin.new.made begun in
@@ -101,7 +109,7 @@ returns-clause-underway g c b o big left wrote u =
     let packet = c.in-Some.packet in
     let w = c.take.new.self in
     let given = c.in-Some.ensures.given in
-    let begun = c.in_ok-begin.ensures in
+    let begun = added_in plan packet p c.begin.new.made c.begin.new.slots c.begin.new.burst b.big c.args.header.now.big big c.in_ok-begin.ensures in
     let new = g.K.Sink.written c.write_ready.new.out in
     let all = waiting plan b s_tells k_tells p o u packet w given.0 given.1 c.take.ensures.range c.begin.new.slots c.begin.new.burst c.begin.new.made begun in
     let es = entries plan b s_tells k_tells p o u packet w given.0 given.1 c.take.ensures.range c.begin.new.slots c.begin.new.burst c.begin.new.made begun in
@@ -110,4 +118,5 @@ returns-clause-underway g c b o big left wrote u =
     let h = said_by (λ x old. HasWritten plan all es c.write_ready.new.self p.counts c.write_ready.new.counts (Appends plan x k_tells old new)) b.big c.args.header.now.big o.written (g.K.Sink.written c.args.out.now)
     big wrote (c.in_ok-write_ready.ensures.written plan all es stands) in
     subst (λ (l : List ℕ). IsUnderway plan b s_tells k_tells q (record o { left = l; written = new })) left
-    (begun_and_written plan b s_tells k_tells p o u packet w given.0 given.1 c.take.ensures.range c.begin.new.slots c.begin.new.burst c.begin.new.made begun new q refl refl refl refl h c.in_ok-write_ready.ensures.waits)
+    (begun_and_written plan b s_tells k_tells p o u packet w given.0 given.1 c.take.ensures.range c.begin.new.slots c.begin.new.burst c.begin.new.made begun new q refl refl refl refl h c.in_ok-write_ready.ensures.waits
+    (subst (λ (x : Bool). AllIn x c.write_ready.new.self) (sym big) c.write_ready.ensures.order))

@@ -11,6 +11,7 @@ use Rattle.capture_io.specs.declared.header.ReadStop.{ReadStop}
 use Rattle.packet_flow.specs.Entries.{entries_from}
 use Rattle.packet_flow.specs.declared.flow.FlowEnd.TheVariants as flow_end
 use Rattle.packet_flow.specs.Passage.{outside}
+use Rattle.packet_flow.specs.Seats.{AllIn}
 use Rattle.packet_flow.specs.Writing.{Appends, CutsNext, HasWritten}
 use Rattle.packet_flow.proofs.Answers.{counts_first, counts_now, cut_now, split_now, within, writes_now}
 use Rattle.packet_flow.proofs.Begun.{few_answers, said_by}
@@ -80,7 +81,10 @@ pub write_ready-requires : goal.write_ready-requires
 write_ready-requires g c =
     let u = c.in_ok-fill.ensures.underway c.requires.underway.0 _ c.requires.underway.2 refl refl c.requires.underway.4 in
     let stand = c.turn-accepted.ensures.stand u.waiting u.stand in
-    record { few = few_answers c.args.plan.now c.requires.underway.0 g.S.Source.tells g.K.Sink.tells c.fill.new.passage _ u c.turn-accepted.new.slots _ stand }
+    record {
+      few = few_answers c.args.plan.now c.requires.underway.0 g.S.Source.tells g.K.Sink.tells c.fill.new.passage _ u c.turn-accepted.new.slots _ stand;
+      order = c.turn-accepted.ensures.order (subst (λ (x : Bool). AllIn x c.fill.new.passage.slots) c.requires.underway.2 u.order);
+    }
 
 pub returns-in_err-write_ready-clause-ends : goal.returns-in_err-write_ready-clause-ends
 returns-in_err-write_ready-clause-ends g c b past first big at ran u0 =
@@ -154,6 +158,7 @@ returns-clause-underway g c b past first big at ran u0 =
         few = few_on u.taken n c.turn-accepted.result.1 (length (g.D.Driver.held c.args.dev.now)) (length (g.D.Driver.held c.turn-accepted.new.dev)) p.burst c.turn-accepted.ensures.within u.few c.turn-accepted.ensures.count;
         fresh = subst (λ (x : Burst (Op Card)). All IsFresh x.ops) (sym c.turn-accepted.ensures.rest) (All-drop IsFresh n p.burst.ops u.fresh);
         front = c.in_ok-write_ready.ensures.waits;
+        order = subst (λ (x : Bool). AllIn x c.write_ready.new.self) (sym big) c.write_ready.ensures.order;
         stopped = u.stopped;
         next = u.next;
         range = u.range;

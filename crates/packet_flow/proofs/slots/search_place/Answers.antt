@@ -1,5 +1,5 @@
 use Rattle.std.proofs.Common.{◌<◌, ◌+◌, ◌-◌, ◌/◌, length, arith}
-use Rattle.packet_flow.specs.Slots.{number_of}
+use Rattle.packet_flow.specs.Laid.{slot_number}
 use Rattle.packet_flow.proofs.Rising.{at_least, below}
 use Rattle.packet_flow.proofs.Settling.{number_at}
 use Rattle.packet_flow.proofs.slots.search_place.Goals as goal
@@ -13,7 +13,7 @@ loop-high-preserved-then-number c =
     record {
       inside = c.loop-high.invariant.inside;
       between = λ i is.
-          (at_least i middle c.args.number (number_of c.index.result.now) _ c.requires.rising is here (omega (arith, c.if-number.true, c.number.ensures)), (c.loop-high.invariant.between i is).1);
+          (at_least i middle c.args.number (slot_number c.index.result.now) _ c.requires.rising is here (omega (arith, c.if-number.true, c.number.ensures)), (c.loop-high.invariant.between i is).1);
     }
 
 pub loop-high-preserved : goal.loop-high-preserved
@@ -25,5 +25,5 @@ loop-high-preserved c =
     record {
       inside = omega (arith, inside);
       between = λ i is.
-          ((c.loop-high.invariant.between i is).0, below i middle c.args.number (number_of c.index.result.now) _ c.requires.rising is here (omega (arith, c.if-number.false, c.number.ensures)));
+          ((c.loop-high.invariant.between i is).0, below i middle c.args.number (slot_number c.index.result.now) _ c.requires.rising is here (omega (arith, c.if-number.false, c.number.ensures)));
     }

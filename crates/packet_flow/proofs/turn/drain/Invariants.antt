@@ -4,11 +4,12 @@ use Rattle.crypto_op.specs.Op.{Entry}
 use Rattle.dev_core.specs.Calls.{Call, Ran}
 use Rattle.packet_flow.specs.Turns.{OnlyAsked}
 use Rattle.packet_flow.specs.Numbered.{Numbered}
+use Rattle.packet_flow.specs.Seats.{AllIn}
 use Rattle.packet_flow.specs.Slots.{StandFor}
 use Rattle.packet_flow.proofs.turn.drain.Given as goal
 
-abbrev pub invariant-loop-size : goal.invariant-loop-size
-invariant-loop-size g l = record {
+abbrev pub invariant-loop-alloc : goal.invariant-loop-alloc
+invariant-loop-alloc g l = record {
   back : l.back ≡ l.fn.back;
   size : l.size ≡ l.fn.back.cap;
   count : l.all + length (g.D.Driver.held l.dev) ≡ length (g.D.Driver.held l.fn.dev);
@@ -20,7 +21,8 @@ invariant-loop-size g l = record {
   follows : g.D.Driver.follows l.fn.dev l.dev;
   stand : (ps : List Numbered) (rest : List (Entry Card)) → StandFor l.plan ps l.fn.slots (g.D.Driver.held l.fn.dev ++ rest)
       → StandFor l.plan ps l.slots (g.D.Driver.held l.dev ++ rest);
+  order : AllIn l.header.big l.fn.slots → AllIn l.header.big l.slots;
 }
 
-abbrev pub decreases-loop-size : goal.decreases-loop-size
-decreases-loop-size g l = length (g.D.Driver.held l.dev)
+abbrev pub decreases-loop-alloc : goal.decreases-loop-alloc
+decreases-loop-alloc g l = length (g.D.Driver.held l.dev)

@@ -11,7 +11,7 @@ use Rattle.packet_plan.proofs.Begun.{found, told, passes, begun_is}
 use Rattle.packet_plan.proofs.ready.ReadyPlan.begin.Goals as goal
 
 pub index-requires : goal.index-requires
-index-requires c =
+index-requires g c =
     let plan = c.self.inside.plan in
     let packet = packet_of c.args.rec.packet in
     let is = told plan packet c.items.result.now _ _ c.items.ensures c.choose-chosen.ensures.choice c.choose-chosen.ensures.flow in
@@ -20,7 +20,7 @@ index-requires c =
     omega (arith, c.self.inside.ways.ok)
 
 pub begun-requires-clause-digest : goal.begun-requires-clause-digest
-begun-requires-clause-digest c =
+begun-requires-clause-digest g c =
     let plan = c.self.inside.plan in
     let packet = packet_of c.args.rec.packet in
     let is = told plan packet c.items.result.now _ _ c.items.ensures c.choose-chosen.ensures.choice c.choose-chosen.ensures.flow in
@@ -28,7 +28,7 @@ begun-requires-clause-digest c =
     subst (λ (w : SessionWay). w.way.digest_len ≤ 64) (sym (at.1.ready c.index.result.now c.index.ensures)) at.1.digest
 
 pub begun-requires-clause-aad : goal.begun-requires-clause-aad
-begun-requires-clause-aad c =
+begun-requires-clause-aad g c =
     let plan = c.self.inside.plan in
     let packet = packet_of c.args.rec.packet in
     let is = told plan packet c.items.result.now _ _ c.items.ensures c.choose-chosen.ensures.choice c.choose-chosen.ensures.flow in
@@ -36,7 +36,7 @@ begun-requires-clause-aad c =
     subst (λ (w : SessionWay). IsTrue w.way.aead → c.in-Use.skip ≤ 255) (sym (at.1.ready c.index.result.now c.index.ensures)) at.1.aad
 
 pub returns-in-Pass : goal.returns-in-Pass
-returns-in-Pass c =
+returns-in-Pass g c =
     let plan = c.self.inside.plan in
     let packet = packet_of c.args.rec.packet in
     let is = told plan packet c.items.result.now _ _ c.items.ensures c.choose-chosen.ensures.choice c.choose-chosen.ensures.flow in
@@ -44,7 +44,7 @@ returns-in-Pass c =
     subst (λ (p : Plan). IsBegun p c.args.n c.args.pos (view c.args.rec) (Ready w)) c.self.view_is (passes plan c.args.n c.args.pos (view c.args.rec) w (is.0 ∙ c.in-Pass.is) refl)
 
 pub returns-in-Use : goal.returns-in-Use
-returns-in-Use c =
+returns-in-Use g c =
     let plan = c.self.inside.plan in
     let packet = packet_of c.args.rec.packet in
     let is = told plan packet c.items.result.now _ _ c.items.ensures c.choose-chosen.ensures.choice c.choose-chosen.ensures.flow in

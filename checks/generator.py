@@ -1,5 +1,6 @@
 """The capture of `gen N NUMBER`, by the words of docs/FORMATS.md. As a program it compares the generated captures with the digests
-that the test of the crate capture_io expects, and what `gen` reports with what checks/reference.py makes of the capture. The program is
+that the test of the crate capture_io expects, what `gen` reports with what checks/reference.py makes of the capture, and its digest
+with that of what `crypt` writes. The program is
 ./capcrypt, or that which the environment variable CAPCRYPT names. Ends with 1 where something differs, and with 3 where
 the Python package `cryptography` is missing."""
 import hashlib
@@ -8,6 +9,7 @@ import pathlib
 import struct
 import subprocess
 import sys
+import tempfile
 
 sys.dont_write_bytecode = True
 TOP = pathlib.Path(__file__).resolve().parent.parent
@@ -76,8 +78,23 @@ def reports(reference):
     return same
 
 
+def seals_alike():
+    """Whether `crypt` writes what `gen` tells the digest of, over the same capture and with the stated texts."""
+    count, number = RUNS[-1]
+    with tempfile.NamedTemporaryFile("w", suffix=".sessions") as sessions:
+        sessions.write(SESSIONS)
+        sessions.flush()
+        words = [PROGRAM, "crypt", "--vdev", SCHEDULER, "--sessions", sessions.name]
+        written = subprocess.run(words, input=capture(count, number), capture_output=True, cwd=TOP, timeout=60).stdout
+    told = subprocess.run([PROGRAM, "gen", str(count), str(number)], capture_output=True, cwd=TOP, timeout=60).stderr
+    same = f"sha256={digest_of(written)}\n".encode() in told
+    if not same:
+        print(f"gen {count} {number} tells another digest than that of what crypt writes", file=sys.stderr)
+    return same
+
+
 def main():
-    found = expected_digests()
+    found = expected_digests() and seals_alike()
     try:
         import reference
     except ImportError:

@@ -21,7 +21,7 @@ mod stall;
 mod stats;
 
 pub use driver::{Device, Driver, Kind, LogEntry, SetUpRefused};
-pub use limits::{LimitList, Limits};
+pub use limits::{LimitList, LimitedCalls, Limits};
 pub use log::LogDriver;
 pub use stall::StallDriver;
 pub use stats::Stats;

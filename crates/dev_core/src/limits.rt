@@ -56,7 +56,7 @@ impl Limits {
 /// The limits of the calls of one kind, and how many such calls were made. That number stands still at
 /// its last value, where no list has a limit.
 #[derive(Drop)]
-pub(crate) struct LimitedCalls {
+pub struct LimitedCalls {
     pub(crate) limits: Limits,
     pub(crate) calls: u64,
 }
@@ -64,8 +64,15 @@ pub(crate) struct LimitedCalls {
 impl LimitedCalls {
     ghost use Rattle.dev_core.specs.Limits.{next_limit, counted, least};
 
+    /// With no call counted yet.
+    pub fn new(limits: Limits) -> LimitedCalls
+        ensures { result ≡ record { limits = limits; calls = 0 } }
+    {
+        LimitedCalls { limits, calls: 0 }
+    }
+
     /// Counts a call, and answers the least of `max` and its limit.
-    pub(crate) fn next(&mut self, max: usize) -> usize
+    pub fn next(&mut self, max: usize) -> usize
         ensures least { result ≡ least (next_limit self.old) max }
         ensures counted { self.new ≡ counted self.old }
     {

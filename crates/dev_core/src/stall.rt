@@ -36,14 +36,8 @@ impl<D> StallDriver<D> {
     {
         StallDriver {
             over: Over::new(inner),
-            enqueues: LimitedCalls {
-                limits: enqueue,
-                calls: 0,
-            },
-            dequeues: LimitedCalls {
-                limits: dequeue,
-                calls: 0,
-            },
+            enqueues: LimitedCalls::new(enqueue),
+            dequeues: LimitedCalls::new(dequeue),
         }
     }
 

@@ -362,10 +362,12 @@ fn each_read_and_each_write_fails_in_turn(rt: HostRuntime) -> Result<(), Fail> {
             ..NOTHING
         };
         let run = quick(alloc, &QUICK, bytes, 7, failing)?;
-        // There are 4 reads for the header, 3 and 9 for each record, and one at the end.
+        // There are 4 reads for the header, 3 and 9 for each record, and one at the end. A record is written before the next one is read.
         let (status, end) = match call {
             0..=3 => (5, 0),
-            4..=28 => (5, 24),
+            4..=15 => (5, 24),
+            16..=27 => (5, 100),
+            28 => (5, 176),
             _ => (0, 176),
         };
         assert_eq!(rt; run.status, status, "read {call}");

@@ -29,9 +29,8 @@ use std::alloc::Global;
 
 const SNAPLEN: u32 = 262_208;
 
-// Few enough that what is in flight stays in the processor's caches, and a live capture flows; and a divisor of 4,096, so
-// that a read which fails behind so many records finds them begun.
-pub(crate) const WINDOW: usize = 8;
+// Each record is read where it is begun, so that one that passes goes straight to the output, and a live capture flows.
+pub(crate) const WINDOW: usize = 1;
 
 // At most so many segments are kept, whatever the burst.
 const MAX_KEPT: usize = 1024;

@@ -29,7 +29,7 @@ use Rattle.packet_flow.specs.Filling.{AddsSlot, left_to_begin, open_end}
 use Rattle.packet_flow.specs.Numbered.{Numbered, answers_to, numbered}
 use Rattle.packet_flow.specs.Packet.{numbered_view, put_back}
 use Rattle.packet_flow.specs.Passage.{Before, Outside, EndsAs, IsEarly, IsUnderway}
-use Rattle.packet_flow.specs.Reads.{GoesOn, HasRead, IsWholeStop}
+use Rattle.packet_flow.specs.Reads.{GoesOn, IsWholeStop, Moves}
 use Rattle.packet_flow.specs.Slots.{StandFor, ops_of, seat_for}
 use Rattle.packet_flow.specs.Window.{Ahead, IsInRange}
 use Rattle.packet_flow.specs.Writing.{Appends, CutsNext, HasWritten}
@@ -189,30 +189,29 @@ pub none_stopped : {X S : Type 0} (xs : List X) → xs ≡ [] → (0 < length xs
 none_stopped xs none (inl some) = absurd (omega (arith, some, ap length none))
 none_stopped xs none (inr s) = s
 
-pub whole_stop : (stop : ReadStop) → (stop ≡ Fault → ⊥) → (stop ≡ OutOfMemory → ⊥) → IsWholeStop stop
-whole_stop ReadStop.End no_fault no_want = tt
-whole_stop (BadCapture at cause) no_fault no_want = tt
-whole_stop (ReadStop.TooLarge value) no_fault no_want = tt
-whole_stop Fault no_fault no_want = absurd (no_fault refl)
-whole_stop OutOfMemory no_fault no_want = absurd (no_want refl)
+nothing_stopped : {X : Type 0} (xs : List X) (at : Option ReadStop) (stop : ReadStop) → (0 < length xs) ⊎ (at ≡ None) → at ≡ Some stop → xs ≡ [] → ⊥
+nothing_stopped xs at stop (inl some) is none = omega (arith, some, ap length none)
+nothing_stopped xs at stop (inr goes) is none = let no : Some stop ≡ None = sym is ∙ goes in cc
 
--- Records were read behind those that waited, and the passage is now q.
-pub read_on : (plan : Plan) (b : Before) (s_tells k_tells : Type 0) (p q : Passage) (o : Outside) (w : Ahead) (big : Bool) (left left' wrote : List ℕ) (result : Option ReadStop)
-    → b.big ≡ big → o.left ≡ left → o.written ≡ wrote → IsUnderway plan b s_tells k_tells p o → w ≡ p.window → p.window.stop ≡ None
-    → q ≡ record p { window = q.window } → q.window.next ≡ w.next → q.window.stop ≡ result
-    → (s_tells → (bytes : List ℕ) (given : List Rec) → HasRead big bytes (given ++ w.waiting) w.place left → GoesOn big bytes (given ++ q.window.waiting) q.window.place left' result)
-    → ((stop : ReadStop) → result ≡ Some stop → IsWholeStop stop × (s_tells → stop ≡ ReadStop.End → left' ≡ []))
-    → IsInRange q.window → IsUnderway plan b s_tells k_tells q (record o { left = left'; written = wrote })
-read_on plan b s_tells k_tells p q o w big left left' wrote result big_is left_is wrote_is u same goes q_is next stop_is reads stopped range =
-    let before : s_tells → HasRead big b.bytes (u.used ++ w.waiting) w.place left = λ told.
-    subst (λ (x : Bool). HasRead x b.bytes (u.used ++ w.waiting) w.place left) big_is
-    (subst (HasRead b.big b.bytes (u.used ++ w.waiting) w.place) left_is
-    (subst (λ (x : Ahead). HasRead b.big b.bytes (u.used ++ x.waiting) x.place o.left) (sym same)
-    (subst (GoesOn b.big b.bytes (u.used ++ p.window.waiting) p.window.place o.left) goes (u.reads told)))) in
-    let on : s_tells → GoesOn b.big b.bytes (u.used ++ q.window.waiting) q.window.place left' q.window.stop = λ told.
-    subst (GoesOn b.big b.bytes (u.used ++ q.window.waiting) q.window.place left') (sym stop_is)
-    (subst (λ (x : Bool). GoesOn x b.bytes (u.used ++ q.window.waiting) q.window.place left' result) (sym big_is) (reads told b.bytes u.used (before told))) in
-    subst (λ (x : Passage). IsUnderway plan b s_tells k_tells x (record o { left = left'; written = wrote })) (sym q_is) (record {
+stop_stays : (s_tells : Type 0) (now left left' : List ℕ) (at : Option ReadStop) (stop : ReadStop) → now ≡ left
+    → ((s : ReadStop) → at ≡ Some s → IsWholeStop s × (s_tells → s ≡ ReadStop.End → now ≡ []))
+    → ((at ≡ Some stop) × (left' ≡ left)) ⊎ (IsWholeStop stop × (s_tells → stop ≡ ReadStop.End → left' ≡ []))
+    → IsWholeStop stop × (s_tells → stop ≡ ReadStop.End → left' ≡ [])
+stop_stays s_tells now left left' at stop is stopped (inl old) = ((stopped stop old.0).0, λ told ended. old.1 ∙ sym is ∙ (stopped stop old.0).1 told ended)
+stop_stays s_tells now left left' at stop is stopped (inr new) = new
+
+-- The window moved on. A packet that was taken of it counts as one that waits.
+pub moved_on : (plan : Plan) (b : Before) (s_tells k_tells : Type 0) (p : Passage) (o : Outside) (w : Ahead) (big : Bool) (left left' wrote : List ℕ)
+    → (0 < length p.window.waiting) ⊎ (p.window.stop ≡ None) → Moves big s_tells left left' p.window w
+    → b.big ≡ big → o.left ≡ left → o.written ≡ wrote → IsUnderway plan b s_tells k_tells p o
+    → IsUnderway plan b s_tells k_tells (record p { window = w }) (record o { left = left'; written = wrote })
+moved_on plan b s_tells k_tells p o w big left left' wrote some m big_is left_is wrote_is u =
+    let before : s_tells → GoesOn big b.bytes (u.used ++ p.window.waiting) p.window.place left p.window.stop = λ told.
+    subst (λ (x : Bool). GoesOn x b.bytes (u.used ++ p.window.waiting) p.window.place left p.window.stop) big_is
+    (subst (λ (l : List ℕ). GoesOn b.big b.bytes (u.used ++ p.window.waiting) p.window.place l p.window.stop) left_is (u.reads told)) in
+    let on : s_tells → GoesOn b.big b.bytes (u.used ++ w.waiting) w.place left' w.stop = λ told.
+    subst (λ (x : Bool). GoesOn x b.bytes (u.used ++ w.waiting) w.place left' w.stop) (sym big_is) (m.reads told b.bytes u.used (before told)) in
+    record {
       used = u.used;
       done = u.done;
       waiting = u.waiting;
@@ -229,21 +228,14 @@ read_on plan b s_tells k_tells p q o w big left left' wrote result big_is left_i
       fresh = u.fresh;
       front = u.front;
       order = u.order;
-      stopped = λ stop is. stopped stop (sym stop_is ∙ is);
-      next = next ∙ ap (λ (x : Ahead). x.next) same ∙ u.next;
-      range = range;
+      stopped = λ stop is. stop_stays s_tells o.left left left' p.window.stop stop left_is u.stopped (m.stops stop is);
+      next = m.next ∙ u.next;
+      range = m.range;
       back = u.back;
       sizes = u.sizes;
       took = u.took;
-      offers = λ later none. u.offers later (λ stop is empty. absurd (let no : Some stop ≡ None = sym is ∙ goes in cc));
-    })
-
-pub stop_read : (p q : Passage) (w : Ahead) (stop : ReadStop) (more : List Rec) → w ≡ p.window → p.window.stop ≡ None → q.window.stop ≡ Some stop → q.window.waiting ≡ w.waiting ++ more
-    → w.place.records + length q.window.waiting ≤ q.window.place.records + length w.waiting → IsInRange q.window → left_to_begin q < left_to_begin p
-stop_read p q w stop more same goes stops behind count range =
-    let at : w.place.records ≡ p.window.place.records = ap (λ (x : Ahead). x.place.records) same in
-    let many : length w.waiting ≡ length p.window.waiting = ap (λ (x : Ahead). length x.waiting) same in
-    omega (arith, ap open_end goes, ap open_end stops, count, range.range, ap length behind, length-append w.waiting more, at, many)
+      offers = λ later none. u.offers later (λ stop is empty. absurd (nothing_stopped p.window.waiting p.window.stop stop some is empty));
+    }
 
 -- what was said of the capture that is written, by its names
 pub said_by : (Says : Bool → List ℕ → Type 0) (big big' : Bool) (old old' : List ℕ) → big ≡ big' → old ≡ old' → Says big' old' → Says big old

@@ -5,6 +5,8 @@ mod Rooms
 mod Bags
 pub mod Answers
 pub mod Numbers
+mod Moving
+mod Passing
 mod Pushing
 mod Begun
 mod Ends

@@ -1,5 +1,5 @@
 -- How records are begun.
-use Rattle.std.specs.Prelude.{◌≡◌, ◌+◌, ◌*◌, ◌-◌, ◌^◌, ◌++◌, ◌∷◌, ℕ, Bool, List, [], length, Option, Some, None}
+use Rattle.std.specs.Prelude.{◌≡◌, ◌+◌, ◌*◌, ◌-◌, ◌^◌, ◌++◌, ◌∷◌, ℕ, Bool, List, [], length, Option, Some, None, Result, Ok, Err}
 use Rattle.crypto_op.specs.declared.spec.Card.{Card}
 use Rattle.crypto_op.specs.declared.op.Op.{Op}
 use Rattle.crypto_op.specs.Burst.{Burst}
@@ -8,6 +8,10 @@ use Rattle.session_file.specs.declared.plan.Plan.{Plan}
 use Rattle.packet_plan.specs.Work.{IsBegun}
 use Rattle.packet_plan.specs.declared.written.Work.{Work}
 use Rattle.capture_io.specs.declared.header.ReadStop.{ReadStop}
+use Rattle.capture_io.specs.declared.header.ReadStop.TheVariants.{Fault, OutOfMemory}
+use Rattle.packet_flow.specs.declared.flow.FlowEnd.{FlowEnd}
+use Rattle.packet_flow.specs.declared.window.Packet.{Packet}
+use Rattle.packet_flow.specs.Window.{Ahead}
 use Rattle.packet_flow.specs.declared.passage.Passage.{Passage}
 use Rattle.packet_flow.specs.Seats.{Seat, IsIn}
 use Rattle.packet_flow.specs.Numbered.{Numbered}
@@ -28,5 +32,14 @@ abbrev pub open_end : Option ReadStop → ℕ
 open_end None = 1
 open_end (Some stop) = 0
 
+abbrev pub left_ahead : Ahead → ℕ
+left_ahead w = 2 * (2 ^ 32 - w.place.records) + length w.waiting + open_end w.stop
+
 abbrev pub left_to_begin : Passage → ℕ
-left_to_begin p = 2 * (2 ^ 32 - p.window.place.records) + length p.window.waiting + open_end p.window.stop
+left_to_begin p = left_ahead p.window
+
+-- A fault or want of memory ends the flow. At any other stop there is no packet more.
+abbrev pub StopsFlow : ReadStop → Result (Option Packet) FlowEnd → Type 0
+StopsFlow Fault result = result ≡ Err (FlowEnd.Stopped Fault)
+StopsFlow OutOfMemory result = result ≡ Err FlowEnd.OutOfMemory
+StopsFlow _ result = result ≡ Ok None

@@ -1,9 +1,10 @@
 -- How far a capture was read.
-use Rattle.std.specs.Prelude.{◌≡◌, ◌++◌, ℕ, Bool, List, Option, None, Some}
+use Rattle.std.specs.Prelude.{◌≡◌, ◌++◌, ◌⊎◌, ℕ, Bool, List, [], Option, None, Some}
 use Rattle.capture_io.specs.declared.header.ReadStop.{ReadStop}
 use Rattle.capture_io.specs.declared.header.ReadStop.TheVariants.{Fault, BadCapture, OutOfMemory}
 use Rattle.capture_io.specs.declared.header.Place.{Place}
 use Rattle.capture_io.specs.Capture.{Rec, Rest, End, Bad, Large, Records, first_place}
+use Rattle.packet_flow.specs.Window.{Ahead, IsInRange}
 
 -- The records so far and the stop, against the records and the rest that the capture has.
 abbrev pub ReadsAs : List Rec → ReadStop → List Rec → Rest → Type 0
@@ -28,3 +29,12 @@ abbrev pub IsWholeStop : ReadStop → Type 0
 IsWholeStop Fault = ⊥
 IsWholeStop OutOfMemory = ⊥
 IsWholeStop _ = Unit {0}
+
+-- From one window to the next the reading goes on, whatever was given before. A stop is one that stood there, or a whole one.
+pub record Moves (big : Bool) (tells : Type 0) (left left' : List ℕ) (old new : Ahead) : Type 0 where
+  pub reads : tells → (bytes : List ℕ) (given : List Rec) → GoesOn big bytes (given ++ old.waiting) old.place left old.stop
+      → GoesOn big bytes (given ++ new.waiting) new.place left' new.stop
+  pub next : new.next ≡ old.next
+  pub range : IsInRange new
+  pub stops : (stop : ReadStop) → new.stop ≡ Some stop
+      → ((old.stop ≡ Some stop) × (left' ≡ left)) ⊎ (IsWholeStop stop × (tells → stop ≡ ReadStop.End → left' ≡ []))

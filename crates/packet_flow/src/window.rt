@@ -1,10 +1,10 @@
 //! Packets that were read and are not begun.
-ghost use Rattle.std.specs.Prelude.{◌≡◌, ◌≤◌, ◌<◌, ◌+◌, ◌*◌, ◌^◌, ◌++◌, List, ℕ, [], length, map, IfSome, Some, None, ◌==◌};
+ghost use Rattle.std.specs.Prelude.{◌≡◌, ◌≤◌, ◌<◌, ◌+◌, ◌*◌, ◌^◌, ◌++◌, List, ℕ, [], length, map, IfSome, Some, None, Err, IfOk, OnOk, OnErr, ◌==◌};
 ghost use Rattle.std.specs.List.{All};
 ghost use Rattle.crypto_model.specs.Counts.{Rose};
 ghost use Rattle.capture_io.specs.Capture.{Rec, view};
 ghost use Rattle.capture_io.specs.Limits.{IsPlaced, IsSmall};
-ghost use Rattle.packet_flow.specs.Packet.{put_back};
+ghost use Rattle.packet_flow.specs.Packet.{given_of, put_back, stop_of, with_given};
 ghost use Rattle.packet_flow.specs.Reads.{GoesOn, HasRead};
 ghost use Rattle.packet_flow.specs.Window.{IsInRange, fresh_window, views};
 
@@ -141,6 +141,44 @@ impl Window {
         );
         self.stop = stop;
         stop
+    }
+
+    /// Reads the next record, where none waits, and says why there is none, if so. From then on no more are read.
+    pub fn read_one<S: Source, P: SegStore>(
+        &mut self,
+        alloc: Global,
+        src: &mut S,
+        header: &Header,
+        store: &mut P,
+    ) -> Result<Packet, ReadStop>
+        requires endless { P.endless }
+        requires goes { self.old.stop ≡ None }
+        requires none { self.old.waiting ≡ [] }
+        ensures read { S.tells → (bytes : List ℕ) (given : List Rec) → HasRead header.now.big bytes (given ++ self.old.waiting) self.old.place (S.left src.old)
+            → GoesOn header.now.big bytes (given ++ (with_given (given_of result) self.new).waiting) self.new.place (S.left src.new) (stop_of result) }
+        ensures stop { self.new.stop ≡ stop_of result }
+        ensures ended { S.tells → result ≡ Err ReadStop.End → S.left src.new ≡ [] }
+        ensures next { (with_given (given_of result) self.new).next ≡ self.old.next }
+        ensures after { IfOk result (λ p. self.new.next ≡ p.number + 1) }
+        ensures waiting { self.new.waiting ≡ [] }
+        ensures small { IfOk result (λ p. IsSmall p.rec) }
+        ensures more { OnOk result (self.new.place.records ≡ self.old.place.records + 1) }
+        ensures stays { OnErr result (self.new.place ≡ self.old.place) }
+        ensures range { IsInRange (with_given (given_of result) self.new) }
+        ensures later { S.faults src.old ≤ S.faults src.new }
+        ensures cause { result ≡ Err ReadStop.Fault → Rose (S.faults src.old) (S.faults src.new) }
+    {
+        match read_record(alloc, src, header, &mut self.place, store) {
+            Ok(rec) => {
+                let number = self.next;
+                self.next += 1;
+                Ok(Packet { number, rec })
+            }
+            Err(stop) => {
+                self.stop = Some(stop);
+                Err(stop)
+            }
+        }
     }
 
     /// Takes the first that waits.

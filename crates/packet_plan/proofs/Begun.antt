@@ -1,6 +1,6 @@
 -- A record whose plan chooses a session.
 use Rattle.std.proofs.Common.{◌≡◌, ℕ, ◌<◌, ◌≤◌, List, [], ◌∷◌, length, get_or, map, Option, Some, slice_get, refl, ap, sym, subst, ◌∙◌, arith}
-use Rattle.std.specs.Prelude.{if◌then◌else◌, Result, Ok, Err, IfOk, IsTrue}
+use Rattle.std.specs.Prelude.{if◌then◌else◌, Result, Ok, Err, IfOk, IsTrue, true, false}
 use Rattle.std.proofs.lemmas.List.{length-map, get_or-map}
 use Rattle.std.proofs.lemmas.Option.{slice_get_within, get_or_from_slice_get}
 use Rattle.crypto_model.specs.declared.plain.CipherAlg.TheVariants.{AesCbc, AesCtr}
@@ -23,7 +23,7 @@ use Rattle.packet_plan.specs.declared.written.Work.TheVariants as work
 use Rattle.packet_plan.specs.declared.written.Fate.TheVariants.{Passed}
 use Rattle.packet_plan.specs.Way.{way_of}
 use Rattle.packet_plan.specs.Iv.{iv_of}
-use Rattle.packet_plan.specs.Asked.{Chosen, Passes, TooShort, Works, chosen_from, asked, asked_by, asked_of, inputs_of, is_too_short, packet_input, transforms_of}
+use Rattle.packet_plan.specs.Asked.{Chosen, Passes, TooShort, Works, chosen, chosen_from, asked, asked_by, asked_of, inputs_of, is_pass, is_too_short, lets_pass, packet_input, transforms_of}
 use Rattle.packet_plan.specs.Answered.{answered_as}
 use Rattle.packet_plan.specs.Work.{IsBegun, written_view}
 use Rattle.packet_plan.specs.Ready.{IsBegunBy, IsReady, IsUsable, input_by, iv_by, ready_of, rule_of}
@@ -123,6 +123,15 @@ pub passes : (plan : Plan) (n i : ℕ) (r : Rec) (w : Written) → (chosen_from 
 passes plan n i r w is view =
     let asks = asked_pass plan n r.packet is in
     (view ∙ ap (answered_as plan r) (sym asks), ap inputs_of asks)
+
+pass_chosen : (c : Choice) → is_pass c ≡ true → c ≡ Pass
+pass_chosen Pass is = refl
+pass_chosen (Use id skip) is = absurd (let no : false ≡ true = is in cc)
+
+-- the same, where the plan was asked
+pub passes_as : (plan : Plan) (n i : ℕ) (r : Rec) (w : Written) → lets_pass plan r.packet ≡ true → written_view w ≡ record { rec = r; fate = Passed }
+    → IsBegun plan n i r (work.Ready w)
+passes_as plan n i r w is = passes plan n i r w (pass_chosen (chosen plan r.packet).choice is)
 
 works : (plan : Plan) (r : Rec) (s : Named) (e : Errand) (w : Work) → Chooses plan r.packet s e → IsBegunBy (ready_of s) e r w → IsBegun plan e.card.packet e.pos r w
 works plan r s e (work.Ready w) is (short, view) =

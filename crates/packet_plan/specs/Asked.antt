@@ -1,5 +1,5 @@
 -- What a plan asks for of packet n.
-use Rattle.std.specs.Prelude.{ℕ, ◌+◌, ◌-◌, ◌&&◌, ◌||◌, Bool, List, [], ◌∷◌, ◌++◌, length, map, take, drop, replicate, nat_le, nat_lt, nat_eq, bytes_eq, slice_get, Option, None, Some, if◌then◌else◌}
+use Rattle.std.specs.Prelude.{ℕ, ◌+◌, ◌-◌, ◌&&◌, ◌||◌, Bool, true, false, List, [], ◌∷◌, ◌++◌, length, map, take, drop, replicate, nat_le, nat_lt, nat_eq, bytes_eq, slice_get, Option, None, Some, if◌then◌else◌}
 use Rattle.crypto_model.specs.declared.plain.SessId.{SessId}
 use Rattle.crypto_model.specs.declared.plain.Range.{Range}
 use Rattle.crypto_model.specs.declared.plain.DigestPlace.{DigestPlace}
@@ -36,6 +36,14 @@ chosen_from i (rule ∷ rules) otherwise packet =
 
 abbrev pub chosen : Plan → List ℕ → Chosen
 chosen plan packet = chosen_from 0 plan.rules plan.otherwise packet
+
+abbrev pub is_pass : Choice → Bool
+is_pass Pass = true
+is_pass (Use id skip) = false
+
+-- the plan chooses no session for this packet
+abbrev pub lets_pass : Plan → List ℕ → Bool
+lets_pass plan packet = is_pass (chosen plan packet).choice
 
 -- ---- the operation, for a packet of len bytes behind its first `skip`
 

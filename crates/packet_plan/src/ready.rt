@@ -7,7 +7,8 @@ ghost use Rattle.crypto_op.specs.Op.{IsDone, made, input_of};
 ghost use Rattle.capture_io.specs.Capture.{view};
 ghost use Rattle.capture_io.specs.Limits.{IsSmall};
 ghost use Rattle.session_file.specs.Sound.{IsSound};
-ghost use Rattle.packet_plan.specs.Asked.{Works, asked, sessions_of, transforms_of};
+ghost use Rattle.mbuf_chain.specs.Chain.{packet_of};
+ghost use Rattle.packet_plan.specs.Asked.{Works, asked, lets_pass, sessions_of, transforms_of};
 ghost use Rattle.packet_plan.specs.Answered.{answered};
 ghost use Rattle.packet_plan.specs.Work.{IsBegun, kept_rec, written_view};
 ghost use Rattle.packet_plan.specs.Ready.{IsUsable};
@@ -19,7 +20,7 @@ use crate::written::{Fate, Kept, Work, Written};
 use capture_io::Record;
 use crypto_model::OutOfMemory;
 use crypto_op::{Card, Op};
-use mbuf_chain::SegStore;
+use mbuf_chain::{Mbuf, SegStore};
 use session_file::{Choice, Named, Plan};
 use std::alloc::Global;
 use std::marker::Model;
@@ -85,6 +86,14 @@ impl ReadyPlan {
         ensures { IfOk result (λ t. t ≡ sessions_of self.now) }
     {
         table_of(alloc, self.plan.sessions.items())
+    }
+
+    /// Whether the plan chooses no session for this packet, so that it is written as it was read.
+    pub fn lets_pass(&self, packet: &Mbuf) -> bool
+        ensures { result ≡ lets_pass self.now (packet_of packet.now) }
+    {
+        let chosen = choose(self.plan.rules.items(), self.plan.otherwise, packet);
+        matches!(chosen.choice, Choice::Pass)
     }
 
     /// Begins record `n`. Where the plan chooses a session and the packet is long enough, this makes an

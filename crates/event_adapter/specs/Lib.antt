@@ -1,0 +1,5 @@
+pub mod Source
+pub mod Inside
+pub mod Steps
+pub mod Ran
+pub mod Adapter

@@ -6,8 +6,7 @@ use Rattle.std.proofs.Math.Seq.{take-append_seam, drop-append_seam}
 use Rattle.std.specs.Simd.Lanes.{zip2}
 use Rattle.crypto_model.specs.Modes.{counter_block}
 use Rattle.aes_core.specs.Bitslice.{pairwise}
-use Rattle.aes_modes.specs.Counters.{words_of, counter_pairs, joined}
-use Rattle.aes_modes.specs.Feeding.{key_stream}
+use Rattle.aes_modes.specs.Counters.{words_of, counter_pairs, joined, key_stream}
 
 pub length-counter_block : (t : ℕ) → length (counter_block t) ≡ 16
 unfolding counter_block

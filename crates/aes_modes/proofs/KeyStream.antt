@@ -4,7 +4,7 @@ use Rattle.std.proofs.lemmas.Nat.{mod_below}
 use Rattle.std.proofs.lemmas.List.{append-nil}
 use Rattle.crypto_model.specs.Aes.{cipher, cipher_with, add_round_key, listed}
 use Rattle.crypto_model.specs.Modes.{xor_with, cut, blocks, counter_of, counter_block, ctr_from, ctr}
-use Rattle.aes_modes.specs.Feeding.{key_stream}
+use Rattle.aes_modes.specs.Counters.{key_stream}
 use Rattle.aes_modes.proofs.XorLists.{xor_with-parts, xor_with-longer}
 
 pub length-cipher : (key x : List ℕ) → length (cipher key x) ≡ 16

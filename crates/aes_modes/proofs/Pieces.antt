@@ -1,15 +1,16 @@
 -- A piece that is taken in, and one behind another.
-use Rattle.std.proofs.Common.{◌≡◌, ℕ, ◌<◌, ◌≤◌, ◌+◌, ◌-◌, ◌*◌, ◌%◌, ◌^◌, List, [], ◌∷◌, ◌++◌, length, take, drop, refl, ap, sym, subst, ◌∙◌, arith, append_assoc, length-append, length-drop}
+use Rattle.std.proofs.Common.{◌≡◌, ℕ, ◌<◌, ◌≤◌, ◌+◌, ◌-◌, ◌*◌, ◌%◌, ◌^◌, List, [], ◌∷◌, ◌++◌, length, take, drop, refl, ap, sym, subst, ◌∙◌, arith, append_assoc, length-append, length-take, length-drop}
 use Rattle.std.proofs.lemmas.List.{drop-drop, append-nil, drop-append-le}
 use Rattle.std.proofs.lemmas.Slice.{take-put_mid, drop-put_mid}
-use Rattle.std.proofs.Math.Seq.{take-add}
+use Rattle.std.proofs.Math.Seq.{take-add, drop-append_seam}
 use borrow.Rule.Slice.PartMut.{put_mid}
 use Rattle.crypto_model.specs.Aes.{cipher}
-use Rattle.crypto_model.specs.Modes.{xor_with, counter_of, counter_block, ctr}
+use Rattle.crypto_model.specs.Modes.{xor_with, counter_of, ctr}
 use Rattle.aes_modes.specs.declared.ctr.Ctr.{Ctr}
-use Rattle.aes_modes.specs.Feeding.{key_stream, unused, IsFed, Feeds}
+use Rattle.aes_modes.specs.Counters.{key_stream}
+use Rattle.aes_modes.specs.Feeding.{unused, IsFed, Feeds}
 use Rattle.aes_modes.proofs.XorLists.{append-xor_with, nothing-xor_with}
-use Rattle.aes_modes.proofs.KeyStream.{length-cipher, key_stream-zero, key_stream-one, length-key_stream, key_stream-add, ctr_is, counter_small}
+use Rattle.aes_modes.proofs.KeyStream.{length-cipher, key_stream-zero, length-key_stream, key_stream-add, ctr_is, counter_small}
 
 -- the key stream that is left, and m blocks behind it, are laid over a piece
 pub feeds : (a b : Ctr) (m : ℕ) (piece out : List ℕ) → b.key.now ≡ a.key.now → (a.counter < 2 ^ 128 → b.counter ≡ (a.counter + m) % 2 ^ 128)
@@ -45,11 +46,11 @@ empty : (xs : List ℕ) → length xs ≡ 0 → xs ≡ []
 empty [] none = refl
 empty (x ∷ xs) none = absurd (omega arith)
 
--- the last block, where all its bytes are used
-used_up : (s : Ctr) → s.used ≡ 16 → length s.stream ≡ 16 → unused s ≡ []
+-- the begun blocks, where all their bytes are used
+used_up : (s : Ctr) → s.used ≡ 64 → length s.stream ≡ 64 → unused s ≡ []
 used_up s full long = empty (unused s) (omega (arith, length-drop s.used s.stream))
 
--- a piece that the last block's key stream is enough for
+-- a piece that the key stream of the begun blocks is enough for
 pub feeds_begun : (a b : Ctr) (piece out : List ℕ) → b.key.now ≡ a.key.now → b.counter ≡ a.counter → b.stream ≡ a.stream → b.used ≡ a.used + length piece
     → a.used + length piece ≤ length a.stream → out ≡ xor_with piece (unused a) → Feeds a b piece out
 feeds_begun a b piece out same stays kept taken fits is =
@@ -59,7 +60,7 @@ feeds_begun a b piece out same stays kept taken fits is =
 
 -- m blocks with no key stream left before and behind them
 pub feeds_whole : (a b : Ctr) (m : ℕ) (piece out : List ℕ) → b.key.now ≡ a.key.now → b.counter ≡ (a.counter + m) % 2 ^ 128
-    → a.used ≡ 16 → length a.stream ≡ 16 → b.used ≡ 16 → length b.stream ≡ 16 → length piece ≡ 16 * m
+    → a.used ≡ 64 → length a.stream ≡ 64 → b.used ≡ 64 → length b.stream ≡ 64 → length piece ≡ 16 * m
     → out ≡ xor_with piece (key_stream (cipher a.key.now) a.counter m) → Feeds a b piece out
 feeds_whole a b m piece out same step full long full' long' whole is =
     let e = cipher a.key.now in
@@ -68,11 +69,19 @@ feeds_whole a b m piece out same step full long full' long' whole is =
     empty (drop (length piece) (key_stream e a.counter m)) (omega (arith, length-drop (length piece) (key_stream e a.counter m), length-key_stream e (length-cipher a.key.now) a.counter m)) in
     feeds a b m piece out same (λ _. step) (omega arith) (used_up b full' long' ∙ sym (rw none all)) (rw none is)
 
--- a new block of key stream
-pub feeds_fresh : (a b : Ctr) → b.key.now ≡ a.key.now → b.counter ≡ (a.counter + 1) % 2 ^ 128 → a.used ≡ 16 → length a.stream ≡ 16
-    → b.used ≡ 0 → b.stream ≡ cipher a.key.now (counter_block a.counter) → Feeds a b [] []
-feeds_fresh a b same step full long fresh is =
-    feeds a b 1 [] [] same (λ _. step) (omega arith) (rw (fresh, is, used_up a full long) (sym (key_stream-one (cipher a.key.now) a.counter))) (sym (nothing-xor_with (unused a ++ key_stream (cipher a.key.now) a.counter 1)))
+-- what is written at the end of the begun blocks
+pub end_written : (xs out : List ℕ) → length xs ≡ 64 → drop 48 (put_mid 48 16 xs out) ≡ out
+end_written xs out long =
+    let front : length (take 48 xs) ≡ 48 = omega (arith, length-take 48 xs, long) in
+    let rest = drop 16 (drop 48 xs) in
+    let none : rest ≡ [] = empty rest (omega (arith, length-drop 16 (drop 48 xs), length-drop 48 xs, long)) in
+    (rw front at (drop-append_seam (take 48 xs) (out ++ rest))) ∙ ap (λ (r : List ℕ). out ++ r) none ∙ append-nil out
+
+-- m new blocks of key stream, of which nothing is used
+pub feeds_fresh : (a b : Ctr) (m : ℕ) → b.key.now ≡ a.key.now → b.counter ≡ (a.counter + m) % 2 ^ 128 → a.used ≡ 64 → length a.stream ≡ 64
+    → unused b ≡ key_stream (cipher a.key.now) a.counter m → Feeds a b [] []
+feeds_fresh a b m same step full long is =
+    feeds a b m [] [] same (λ _. step) (omega arith) (rw (used_up a full long) is) (sym (nothing-xor_with (unused a ++ key_stream (cipher a.key.now) a.counter m)))
 
 -- no bytes
 pub feeds_none : (s : Ctr) → Feeds s s [] []
@@ -102,12 +111,12 @@ feeds_then a b c whole first second out more parts one two =
 -- a loop has taken in the bytes before at, and has come to none behind them
 pub record IsFedUpto (a b : Ctr) (old now : List ℕ) (at : ℕ) : Type 0 where
   pub rest : drop at now ≡ drop at old
-  pub used_up : b.used ≡ 16
+  pub used_up : b.used ≡ 64
   pub fed : Feeds a b (take at old) (take at now)
 
 -- k bytes more
 pub upto_more : (a b c : Ctr) (old now out : List ℕ) (at end k : ℕ) → IsFedUpto a b old now at → at + k ≡ end → end ≤ length now → length now ≡ length old
-    → length out ≡ k → c.used ≡ 16 → Feeds b c (take k (drop at now)) out → IsFedUpto a c old (put_mid at k now out) end
+    → length out ≡ k → c.used ≡ 64 → Feeds b c (take k (drop at now)) out → IsFedUpto a c old (put_mid at k now out) end
 upto_more a b c old now out at end k before sum within same long full more =
     let taken : take at old ++ take k (drop at now) ≡ take end old =
     ap (λ (xs : List ℕ). take at old ++ take k xs) before.rest ∙ sym (take-add at k old) ∙ ap (λ (n : ℕ). take n old) sum in

@@ -1,4 +1,4 @@
--- Counters of CTR by two words, and their blocks in pairs.
+-- Counters of CTR by two words, their blocks in pairs, and the key stream.
 use Rattle.std.specs.Prelude.{ℕ, zero, suc, ◌+◌, ◌/◌, ◌%◌, ◌^◌, List, [], ◌∷◌, ◌++◌}
 use Rattle.crypto_model.specs.Modes.{counter_block}
 
@@ -15,3 +15,8 @@ counter_pairs t i (suc n) = (counter_block ((t + i) % 2 ^ 128) ++ counter_block 
 abbrev pub joined : List (List ℕ) → List ℕ
 joined [] = []
 joined (v ∷ vs) = v ++ joined vs
+
+-- n blocks of key stream from the counter t on
+unfoldable pub key_stream : (List ℕ → List ℕ) → ℕ → ℕ → List ℕ
+key_stream e t zero = []
+key_stream e t (suc n) = e (counter_block t) ++ key_stream e ((t + 1) % 2 ^ 128) n

@@ -1,15 +1,11 @@
 -- CTR of a text that comes in pieces.
-use Rattle.std.specs.Prelude.{◌≡◌, ℕ, zero, suc, ◌+◌, ◌*◌, ◌%◌, ◌^◌, ◌≤◌, List, [], ◌++◌, length, drop}
+use Rattle.std.specs.Prelude.{◌≡◌, ℕ, ◌+◌, ◌*◌, ◌%◌, ◌^◌, ◌≤◌, List, ◌++◌, length, drop}
 use Rattle.crypto_model.specs.Aes.{cipher}
-use Rattle.crypto_model.specs.Modes.{ctr, counter_of, counter_block}
+use Rattle.crypto_model.specs.Modes.{ctr, counter_of}
+use Rattle.aes_modes.specs.Counters.{key_stream}
 use Rattle.aes_modes.specs.declared.ctr.Ctr.{Ctr}
 
--- n blocks of key stream from the counter t on
-unfoldable pub key_stream : (List ℕ → List ℕ) → ℕ → ℕ → List ℕ
-key_stream e t zero = []
-key_stream e t (suc n) = e (counter_block t) ++ key_stream e ((t + 1) % 2 ^ 128) n
-
--- the bytes of the last block's key stream that no text has used
+-- the bytes of the begun blocks' key stream that no text has used
 abbrev pub unused : Ctr → List ℕ
 unused s = drop s.used s.stream
 

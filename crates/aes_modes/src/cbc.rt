@@ -3,6 +3,7 @@ ghost use Rattle.std.specs.Prelude.{◌≡◌, ◌%◌, ◌++◌, List, [], ℕ,
 ghost use Rattle.crypto_model.specs.Aes.{cipher, inverse_cipher};
 ghost use Rattle.crypto_model.specs.Modes.{cbc_encrypt, cbc_decrypt};
 
+use crate::lanes::write_four;
 use crate::xor::{xor_block, xor_four};
 use aes_core::{Key, decrypt, decrypt_four, encrypt};
 use std::simd::prelude::*;
@@ -142,26 +143,6 @@ fn read_four(blocks: &[u8]) -> (u8x16, u8x16, u8x16, u8x16)
         u8x16::from_slice(&blocks[32..48]),
         u8x16::from_slice(&blocks[48..]),
     )
-}
-
-#[inline(always)]
-fn write_two(blocks: &mut [u8], a: u8x16, b: u8x16)
-    requires { length blocks.old ≡ 32 }
-    ensures { blocks.new ≡ a ++ b }
-{
-    let (first, second) = blocks.split_at_mut(16);
-    a.copy_to_slice(first);
-    b.copy_to_slice(second);
-}
-
-#[inline(always)]
-fn write_four(blocks: &mut [u8], a: u8x16, b: u8x16, c: u8x16, d: u8x16)
-    requires { length blocks.old ≡ 64 }
-    ensures { blocks.new ≡ (a ++ b) ++ (c ++ d) }
-{
-    let (first, second) = blocks.split_at_mut(32);
-    write_two(first, a, b);
-    write_two(second, c, d);
 }
 
 #[cfg(test)]

@@ -1,24 +1,28 @@
 //! CTR (SP 800-38A, 6.5).
 ghost use Rattle.std.specs.Prelude.{◌≡◌, ◌<◌, ◌≤◌, ◌+◌, ◌%◌, ◌^◌, ◌++◌, List, [], ℕ, length};
-ghost use Rattle.aes_modes.specs.Counters.{counter_pairs, words_of};
+ghost use Rattle.aes_modes.specs.Counters.{counter_pairs, key_stream, words_of};
 ghost use Rattle.crypto_model.specs.Aes.{cipher};
 ghost use Rattle.crypto_model.specs.Modes.{counter_block, ctr};
 
-use crate::xor::{xor_block, xor_bytes, xor_four, xor_sixteen};
+use crate::lanes::write_four;
+use crate::xor::{xor_bytes, xor_four, xor_sixteen};
 use aes_core::{Key, encrypt, encrypt_four, encrypt_sixteen};
 use std::simd::prelude::*;
+
+// The bytes of four blocks, which cost little more than one where they are encrypted together.
+const GROUP: usize = 64;
 
 /// Key stream of CTR (SP 800-38A, 6.5) from a first counter block on, laid over pieces of any
 /// length.
 #[derive(Drop)]
 pub struct Ctr<'a> {
     key: &'a Key,
-    // Of the key stream's next block.
+    // Of the block behind those that are begun.
     counter: u128,
-    // The last block that was begun, and how many of its bytes are used.
-    stream: [u8; 16],
+    // The key stream of the blocks that were begun last, at the end, and how many bytes of all are used or never were begun.
+    stream: [u8; GROUP],
     used: usize,
-    ghost within: { used ≤ 16 },
+    ghost within: { used ≤ 64 },
 }
 
 // A counter goes by two words, since the bytes of a `u128` would go through memory.
@@ -122,6 +126,20 @@ fn counter_pairs(first: u128) -> [u8x32; 8]
     }
 }
 
+// The key stream of four blocks.
+#[inline(always)]
+fn four_blocks(key: &Key, first: u128) -> (u8x16, u8x16, u8x16, u8x16)
+    ensures { (result.0 ++ result.1) ++ (result.2 ++ result.3) ≡ key_stream (cipher key.now) first 4 }
+{
+    encrypt_four(
+        key,
+        counter_lanes(first),
+        counter_lanes(first.wrapping_add(1)),
+        counter_lanes(first.wrapping_add(2)),
+        counter_lanes(first.wrapping_add(3)),
+    )
+}
+
 impl<'a> Ctr<'a> {
     ghost use Rattle.aes_modes.specs.Feeding.{IsFed, Feeds};
 
@@ -132,8 +150,8 @@ impl<'a> Ctr<'a> {
         Ctr {
             key,
             counter: u128::from_be_bytes(counter),
-            stream: [0; 16],
-            used: 16,
+            stream: [0; GROUP],
+            used: GROUP,
         }
     }
 
@@ -143,7 +161,7 @@ impl<'a> Ctr<'a> {
             → IsFed key iv self.new (text ++ piece.old)
             × (ctr (cipher key) iv (text ++ piece.old) ≡ ctr (cipher key) iv text ++ piece.new) }
     {
-        let left = piece.len().min(16 - self.used);
+        let left = piece.len().min(GROUP - self.used);
         let (begun, rest) = piece.split_at_mut(left);
         self.feed_begun(begun);
         if rest.is_empty() {
@@ -152,18 +170,15 @@ impl<'a> Ctr<'a> {
         let whole = rest.len() / 256 * 256;
         let (sixteens, rest) = rest.split_at_mut(whole);
         self.feed_sixteens(sixteens);
-        let whole = rest.len() / 64 * 64;
-        let (groups, rest) = rest.split_at_mut(whole);
+        let whole = rest.len() / GROUP * GROUP;
+        let (groups, last) = rest.split_at_mut(whole);
         self.feed_groups(groups);
-        let whole = rest.len() / 16 * 16;
-        let (blocks, last) = rest.split_at_mut(whole);
-        self.feed_blocks(blocks);
         self.feed_last(last);
     }
 
-    // At most as many bytes as the last block has left.
+    // At most as many bytes as the begun blocks have left.
     fn feed_begun(&mut self, piece: &mut [u8])
-        requires { self.old.used + length piece.old ≤ 16 }
+        requires { self.old.used + length piece.old ≤ 64 }
         ensures fed { Feeds self.old self.new piece.old piece.new }
         ensures used { self.new.used ≡ self.old.used + length piece.old }
     {
@@ -173,10 +188,10 @@ impl<'a> Ctr<'a> {
 
     // Groups of sixteen blocks.
     fn feed_sixteens(&mut self, piece: &mut [u8])
-        requires used_up { self.old.used ≡ 16 }
+        requires used_up { self.old.used ≡ 64 }
         requires whole { length piece.old % 256 ≡ 0 }
         ensures fed { Feeds self.old self.new piece.old piece.new }
-        ensures used_up { self.new.used ≡ 16 }
+        ensures used_up { self.new.used ≡ 64 }
     {
         let mut at = 0;
         while at < piece.len() {
@@ -187,10 +202,10 @@ impl<'a> Ctr<'a> {
 
     #[inline(always)]
     fn feed_sixteen(&mut self, group: &mut [u8])
-        requires used_up { self.old.used ≡ 16 }
+        requires used_up { self.old.used ≡ 64 }
         requires whole { length group.old ≡ 256 }
         ensures fed { Feeds self.old self.new group.old group.new }
-        ensures used_up { self.new.used ≡ 16 }
+        ensures used_up { self.new.used ≡ 64 }
     {
         let first = self.counter;
         let stream = encrypt_sixteen(self.key, &counter_pairs(first));
@@ -200,66 +215,53 @@ impl<'a> Ctr<'a> {
 
     // Groups of four blocks.
     fn feed_groups(&mut self, piece: &mut [u8])
-        requires used_up { self.old.used ≡ 16 }
+        requires used_up { self.old.used ≡ 64 }
         requires whole { length piece.old % 64 ≡ 0 }
         ensures fed { Feeds self.old self.new piece.old piece.new }
-        ensures used_up { self.new.used ≡ 16 }
+        ensures used_up { self.new.used ≡ 64 }
     {
         let mut at = 0;
         while at < piece.len() {
-            self.feed_group(&mut piece[at..at + 64]);
-            at += 64;
+            self.feed_group(&mut piece[at..at + GROUP]);
+            at += GROUP;
         }
     }
 
     #[inline(always)]
     fn feed_group(&mut self, group: &mut [u8])
-        requires used_up { self.old.used ≡ 16 }
+        requires used_up { self.old.used ≡ 64 }
         requires whole { length group.old ≡ 64 }
         ensures fed { Feeds self.old self.new group.old group.new }
-        ensures used_up { self.new.used ≡ 16 }
+        ensures used_up { self.new.used ≡ 64 }
     {
         let first = self.counter;
-        let (a, b, c, d) = encrypt_four(
-            self.key,
-            counter_lanes(first),
-            counter_lanes(first.wrapping_add(1)),
-            counter_lanes(first.wrapping_add(2)),
-            counter_lanes(first.wrapping_add(3)),
-        );
+        let (a, b, c, d) = four_blocks(self.key, first);
         xor_four(group, a, b, c, d);
         self.counter = first.wrapping_add(4);
     }
 
-    // Whole blocks.
-    fn feed_blocks(&mut self, piece: &mut [u8])
-        requires used_up { self.old.used ≡ 16 }
-        requires whole { length piece.old % 16 ≡ 0 }
-        ensures fed { Feeds self.old self.new piece.old piece.new }
-        ensures used_up { self.new.used ≡ 16 }
-    {
-        let mut at = 0;
-        while at < piece.len() {
-            self.feed_block(&mut piece[at..at + 16]);
-            at += 16;
-        }
-    }
-
-    fn feed_block(&mut self, block: &mut [u8])
-        requires used_up { self.old.used ≡ 16 }
-        requires whole { length block.old ≡ 16 }
-        ensures fed { Feeds self.old self.new block.old block.new }
-        ensures used_up { self.new.used ≡ 16 }
-    {
-        let stream = self.next_block();
-        xor_block(block, u8x16::from_array(stream));
-    }
-
-    // The bytes behind the last whole block.
+    // The bytes behind the last whole group. Four blocks at once cost less than three, one by one.
     fn feed_last(&mut self, piece: &mut [u8])
-        requires used_up { self.old.used ≡ 16 }
-        requires short { length piece.old < 16 }
+        requires used_up { self.old.used ≡ 64 }
+        requires short { length piece.old < 64 }
         ensures fed { Feeds self.old self.new piece.old piece.new }
+    {
+        if piece.len() > 32 {
+            self.begin_group();
+            self.feed_begun(piece);
+            return;
+        }
+        let (first, second) = piece.split_at_mut(piece.len().min(16));
+        self.feed_block(first);
+        self.feed_block(second);
+    }
+
+    // At most a block, behind used ones.
+    fn feed_block(&mut self, piece: &mut [u8])
+        requires used_up { 0 < length piece.old → self.old.used ≡ 64 }
+        requires short { length piece.old ≤ 16 }
+        ensures fed { Feeds self.old self.new piece.old piece.new }
+        ensures used_up { length piece.old ≡ 16 → self.new.used ≡ 64 }
     {
         if piece.is_empty() {
             return;
@@ -268,22 +270,26 @@ impl<'a> Ctr<'a> {
         self.feed_begun(piece);
     }
 
-    fn begin_block(&mut self)
-        requires { self.old.used ≡ 16 }
+    fn begin_group(&mut self)
+        requires { self.old.used ≡ 64 }
         ensures fed { Feeds self.old self.new [] [] }
         ensures used { self.new.used ≡ 0 }
     {
-        self.stream = self.next_block();
+        let (a, b, c, d) = four_blocks(self.key, self.counter);
+        write_four(&mut self.stream, a, b, c, d);
+        self.counter = self.counter.wrapping_add(4);
         self.used = 0;
     }
 
-    fn next_block(&mut self) -> [u8; 16]
-        ensures stream { result ≡ cipher self.old.key.now (counter_block self.old.counter) }
-        ensures step { self.new ≡ record self.old { counter = (self.old.counter + 1) % 2 ^ 128 } }
+    fn begin_block(&mut self)
+        requires { self.old.used ≡ 64 }
+        ensures fed { Feeds self.old self.new [] [] }
+        ensures used { self.new.used ≡ 48 }
     {
         let mut block = self.counter.to_be_bytes();
         encrypt(self.key, &mut block);
+        self.stream[48..].copy_from_slice(&block);
         self.counter = self.counter.wrapping_add(1);
-        block
+        self.used = 48;
     }
 }

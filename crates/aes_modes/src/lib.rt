@@ -17,6 +17,7 @@
 
 mod cbc;
 mod ctr;
+mod lanes;
 mod xor;
 
 pub use cbc::{CbcDec, CbcEnc};

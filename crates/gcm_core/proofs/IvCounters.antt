@@ -7,7 +7,7 @@ use Rattle.crypto_model.specs.Aes.{cipher}
 use Rattle.std.proofs.lemmas.Simd.{pick_l_whole}
 use Rattle.crypto_model.specs.Modes.{xor_with, counter_of, counter_block, ctr}
 use Rattle.crypto_model.specs.Gcm.{iv_block, gcm_text}
-use Rattle.aes_modes.specs.Feeding as C
+use Rattle.aes_modes.specs.Counters as C
 use Rattle.aes_modes.proofs.KeyStream.{ctr_is}
 use Rattle.aes_modes.proofs.XorLists.{append-xor_with}
 use Rattle.gcm_core.proofs.KeyStreams.{iv_block-round, key_stream, length-key_stream, key_stream-add, key_stream-same, gcm_text_is}

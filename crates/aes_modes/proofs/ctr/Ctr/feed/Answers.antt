@@ -13,5 +13,4 @@ returns c =
     feeds_then c.args.self.now c.feed_begun.new.self c.feed_last.new.self _ _ _ _ _ c.split_at_mut-begun.ensures.value c.feed_begun.ensures.fed
     (feeds_then c.feed_begun.new.self c.feed_sixteens.new.self c.feed_last.new.self _ _ _ _ _ c.split_at_mut-sixteens.ensures.value c.feed_sixteens.ensures.fed
     (feeds_then c.feed_sixteens.new.self c.feed_groups.new.self c.feed_last.new.self _ _ _ _ _ c.split_at_mut-groups.ensures.value c.feed_groups.ensures.fed
-    (feeds_then c.feed_groups.new.self c.feed_blocks.new.self c.feed_last.new.self _ _ _ _ _ c.split_at_mut-blocks.ensures.value c.feed_blocks.ensures.fed
-    c.feed_last.ensures.fed)))
+    c.feed_last.ensures.fed))

@@ -1,27 +1,11 @@
-use Rattle.std.proofs.Common.{◌≡◌, ◌++◌, ◌∙◌, ap, sym, rules, refl, length}
-use Rattle.crypto_model.specs.Aes.{cipher}
+use Rattle.std.proofs.Common.{◌≡◌, ◌∙◌, ap, rules, refl, length}
 use Rattle.crypto_model.specs.Modes.{xor_with}
-use Rattle.aes_modes.specs.Feeding.{key_stream}
-use Rattle.aes_modes.proofs.KeyStream.{key_stream-four}
 use Rattle.aes_modes.proofs.Pieces.{feeds_whole}
 use Rattle.aes_modes.proofs.ctr.Ctr.feed_group.Goals as goal
 
 pub returns-clause-fed : goal.returns-clause-fed
 returns-clause-fed c =
     let state = c.args.self.now in
-    let e = cipher state.key.now in
-    let four = c.encrypt_four.result in
-    let long : length state.stream ≡ 16 = search rules in
-    let stream : (four.0 ++ four.1) ++ (four.2 ++ four.3) ≡ key_stream e state.counter 4 =
-    rw (
-      c.encrypt_four.ensures.first,
-      c.encrypt_four.ensures.second,
-      c.encrypt_four.ensures.third,
-      c.encrypt_four.ensures.fourth,
-      c.counter_lanes.ensures,
-      c.counter_lanes-2.ensures,
-      c.counter_lanes-3.ensures,
-      c.counter_lanes-4.ensures,
-    ) (sym (key_stream-four e state.counter)) in
+    let long : length state.stream ≡ 64 = search rules in
     feeds_whole state _ 4 c.args.group.now _ refl refl c.requires.used_up long c.requires.used_up long c.requires.whole
-    (c.xor_four.ensures ∙ ap (xor_with c.args.group.now) stream)
+    (c.xor_four.ensures ∙ ap (xor_with c.args.group.now) c.four_blocks.ensures)

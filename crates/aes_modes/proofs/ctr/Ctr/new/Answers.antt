@@ -1,6 +1,6 @@
 use Rattle.std.proofs.Common.{◌≡◌, refl, arith}
 use Rattle.crypto_model.specs.Modes.{counter_of}
-use Rattle.aes_modes.specs.Feeding.{key_stream}
+use Rattle.aes_modes.specs.Counters.{key_stream}
 use Rattle.aes_modes.proofs.ctr.Ctr.new.Goals as goal
 
 pub returns : goal.returns

@@ -1,6 +1,6 @@
 use Rattle.std.proofs.Common.{arith}
 use Rattle.std.proofs.lemmas.Simd.{put_chunk_whole}
-use Rattle.aes_modes.proofs.cbc.write_two.Goals as goal
+use Rattle.aes_modes.proofs.lanes.write_two.Goals as goal
 
 pub returns : goal.returns
 returns c =

@@ -128,7 +128,8 @@ pub record Job (start : Start) (reading : Reading) (o : Outcome) (old new : List
   pub decided : IsDecided o.ending → DevicesServeWhole start reading before now
 
 -- The same with the report: the status is that of the outcome that the report tells, or the report failed.
-pub record HasRun (made : Option Gen) (start : Start) (reading : Reading) (status : ℕ) (out_old out_new : List ℕ) (kept : ℕ → Type 0) (before now : List DeviceNow)
+pub record HasRun (made : Option Gen) (start : Start) (reading : Reading) (status : ℕ) (out_old out_new : List ℕ)
+    (kept : ℕ → Type 0) (before now : List DeviceNow)
     (report_old report_new : List ℕ) (report_rose : Type 0) : Type 0 where
   pub outcome : Outcome
   pub old : List ℕ

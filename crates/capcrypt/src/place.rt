@@ -64,7 +64,8 @@ pub(crate) fn work<S: Source, K: Sink, D: Device<Card>>(
 ) -> Worked<D>
     requires can { CanStart task.now (length devs.items) }
     requires idle { All (λ d. D.held d ≡ []) devs.items }
-    ensures job { let made = task.now.generated in OfHanded made S.tells → OfHanded made K.tells → (reading : Reading) → IsReading (capture_read made (S.left capture.old)) reading
+    ensures job { let made = task.now.generated in OfHanded made S.tells → OfHanded made K.tells
+        → (reading : Reading) → IsReading (capture_read made (S.left capture.old)) reading
         → let now = devices_now D.limit D.sessions D.held D.room D.stalls D.stats D.log
         in HasWorked made (K.written out.old) (K.written out.new) result.outcome result.digest
         (λ old new. Job (Begins (settings_of task.now)) reading result.outcome old new

@@ -100,12 +100,14 @@ pub(crate) fn begin<T: Source>(
     devices: usize,
     sessions: &mut T,
 ) -> Result<Task, Ending>
-    ensures task { OfHanded (generated_in (wanted (map string_bytes words.now) devices)) T.tells → IfOk result (λ t. started (map string_bytes words.now) devices (T.left sessions.old) ≡ Begins (settings_of t)) }
+    ensures task { OfHanded (generated_in (wanted (map string_bytes words.now) devices)) T.tells
+        → IfOk result (λ t. started (map string_bytes words.now) devices (T.left sessions.old) ≡ Begins (settings_of t)) }
     ensures burst { IfOk result (λ t. burst_asked (wanted (map string_bytes words.now) devices) ≡ Some t.burst) }
     ensures generated { IfOk result (λ t. t.generated ≡ generated_in (wanted (map string_bytes words.now) devices)) }
     ensures workers { IfOk result (λ t. workers_asked (wanted (map string_bytes words.now) devices) ≡ workers_of (dealing_of t.scheduler)) }
     ensures legal { 0 < devices → IfOk result (λ t. CanStart t devices) }
-    ensures stops { OfHanded (generated_in (wanted (map string_bytes words.now) devices)) T.tells → IfErr result (λ e. IsDecided e → started (map string_bytes words.now) devices (T.left sessions.old) ≡ Stops e) }
+    ensures stops { OfHanded (generated_in (wanted (map string_bytes words.now) devices)) T.tells
+        → IfErr result (λ e. IsDecided e → started (map string_bytes words.now) devices (T.left sessions.old) ≡ Stops e) }
     ensures never { ¬ (result ≡ Err Ending.WriteFault) × ¬ (result ≡ Err Ending.Stalled) × ¬ (result ≡ Err Ending.Done) }
     ensures unread { LeavesSessions (wanted (map string_bytes words.now) devices) → sessions.new ≡ sessions.old }
     ensures later { T.faults sessions.old ≤ T.faults sessions.new }

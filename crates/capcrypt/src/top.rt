@@ -53,13 +53,15 @@ fn run_unreported<S: Source, T: Source, K: Sink, D: Device<Card>>(
 ) -> Worked<D>
     requires some { 0 < length devs.items }
     requires idle { All (λ d. D.held d ≡ []) devs.items }
-    ensures job { let made = generated_in (wanted (map string_bytes words.now) (length devs.items)) in OfHanded made S.tells → OfHanded made T.tells → OfHanded made K.tells
+    ensures job { let made = generated_in (wanted (map string_bytes words.now) (length devs.items))
+        in OfHanded made S.tells → OfHanded made T.tells → OfHanded made K.tells
         → (reading : Reading) → IsReading (capture_read made (S.left capture.old)) reading
         → let now = devices_now D.limit D.sessions D.held D.room D.stalls D.stats D.log
         in HasWorked made (K.written out.old) (K.written out.new) result.outcome result.digest
         (λ old new. Job (started (map string_bytes words.now) (length devs.items) (T.left sessions.old)) reading result.outcome old new
         (λ n. drop n result.devs.items ≡ drop n devs.items) (now devs.items) (now result.devs.items)) }
-    ensures untouched { IsGenerated (generated_in (wanted (map string_bytes words.now) (length devs.items))) → (capture.new ≡ capture.old) × (out.new ≡ out.old) }
+    ensures untouched { IsGenerated (generated_in (wanted (map string_bytes words.now) (length devs.items)))
+        → (capture.new ≡ capture.old) × (out.new ≡ out.old) }
     ensures count { length result.devs.items ≡ length devs.items }
     ensures few { result.outcome.devices ≤ length devs.items }
     ensures others { let w = workers_asked (wanted (map string_bytes words.now) (length devs.items)) in drop w result.devs.items ≡ drop w devs.items }
@@ -118,14 +120,17 @@ pub fn run<S: Source, T: Source, K: Sink, E: Sink, D: Device<Card>>(
     requires idle { All (λ d. D.held d ≡ []) devs.items }
 
     // What was written, reported and done by the devices, and why.
-    ensures ran { let made = generated_in (wanted (map string_bytes words.now) (length devs.items)) in OfHanded made S.tells → OfHanded made T.tells → OfHanded made K.tells
+    ensures ran { let made = generated_in (wanted (map string_bytes words.now) (length devs.items))
+        in OfHanded made S.tells → OfHanded made T.tells → OfHanded made K.tells
         → E.tells → (reading : Reading) → IsReading (capture_read made (S.left capture.old)) reading
         → let now = devices_now D.limit D.sessions D.held D.room D.stalls D.stats D.log
-        in HasRun made (started (map string_bytes words.now) (length devs.items) (T.left sessions.old)) reading result.status (K.written out.old) (K.written out.new)
+        in HasRun made (started (map string_bytes words.now) (length devs.items) (T.left sessions.old)) reading result.status
+        (K.written out.old) (K.written out.new)
         (λ n. drop n result.devs.items ≡ drop n devs.items) (now devs.items) (now result.devs.items)
         (E.written report.old) (E.written report.new) (Rose (E.faults report.old) (E.faults report.new)) }
     // Where the capture is generated, the one that was handed in and the output are as they were.
-    ensures untouched { IsGenerated (generated_in (wanted (map string_bytes words.now) (length devs.items))) → (capture.new ≡ capture.old) × (out.new ≡ out.old) }
+    ensures untouched { IsGenerated (generated_in (wanted (map string_bytes words.now) (length devs.items)))
+        → (capture.new ≡ capture.old) × (out.new ≡ out.old) }
     // The devices behind the used ones are as they were, and so is the session source where the words don't ask for it.
     ensures devices { length result.devs.items ≡ length devs.items }
     ensures others { let w = workers_asked (wanted (map string_bytes words.now) (length devs.items)) in drop w result.devs.items ≡ drop w devs.items }
@@ -152,7 +157,8 @@ pub fn run<S: Source, T: Source, K: Sink, E: Sink, D: Device<Card>>(
     ensures report_steady { E.steady → ¬ (result.status ≡ 6) → E.faults report.new ≡ E.faults report.old }
 
     // Where no count rose so far, words, session text and capture decide the status, or memory was wanting.
-    ensures complete { let made = generated_in (wanted (map string_bytes words.now) (length devs.items)) in OfHanded made S.tells → OfHanded made T.tells → OfHanded made K.tells
+    ensures complete { let made = generated_in (wanted (map string_bytes words.now) (length devs.items))
+        in OfHanded made S.tells → OfHanded made T.tells → OfHanded made K.tells
         → E.tells → (reading : Reading) → IsReading (capture_read made (S.left capture.old)) reading
         → ¬ Rose (S.faults capture.old) (S.faults capture.new) → ¬ Rose (T.faults sessions.old) (T.faults sessions.new)
         → ¬ Rose (K.faults out.old) (K.faults out.new) → ¬ Rose (E.faults report.old) (E.faults report.new)

@@ -19,8 +19,10 @@
 //! transfer
 //!     step                  until the capture is at its end
 //!         fill              where the burst is empty
-//!             advance       record by record: one that waits is begun, or a window is read
-//!                 Window::take, Window::read, begin, Slots::write_ready
+//!             advance       record by record: it is begun, or passed on where its plan leaves it
+//!                 next_packet   one that waits in the window, or is read: Window::take, Window::read, Window::read_one
+//!                 pass_on       written at once where no slot is before it
+//!                 begin, Slots::push, Slots::write_ready
 //!         turn
 //!             offer         the burst, once
 //!             drain         what comes back, into its slots (Slots::settle_all)

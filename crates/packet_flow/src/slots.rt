@@ -117,7 +117,8 @@ fn kept_back<P: SegStore>(
     number: u32,
     written: Written,
 ) -> Slot
-    ensures { (order : Option Bool) × (seats_of result ≡ Ready number (written_view written) order ∷ []) × IsIn header.now.big (Ready number (written_view written) order) }
+    ensures { (order : Option Bool) × (seats_of result ≡ Ready number (written_view written) order ∷ [])
+        × IsIn header.now.big (Ready number (written_view written) order) }
 {
     match Run::of(alloc, header, number, &written) {
         Ok(run) => {
@@ -137,7 +138,8 @@ fn answered_slot<P: SegStore>(
     written: Written,
     next: bool,
 ) -> Slot
-    ensures { (order : Option Bool) × (seats_of result ≡ Ready number (written_view written) order ∷ []) × IsIn header.now.big (Ready number (written_view written) order) }
+    ensures { (order : Option Bool) × (seats_of result ≡ Ready number (written_view written) order ∷ [])
+        × IsIn header.now.big (Ready number (written_view written) order) }
 {
     if next {
         Slot::Ready { number, written }
@@ -282,7 +284,8 @@ impl Slots {
         number: u32,
         work: Work,
     ) -> Result<Option<Op<Card>>, OutOfMemory>
-        ensures slot { IfOk result (λ op. (order : Option Bool) × (self.new ≡ self.old ++ seat_for number work order ∷ []) × IsIn header.now.big (seat_for number work order)) }
+        ensures slot { IfOk result (λ op. (order : Option Bool) × (self.new ≡ self.old ++ seat_for number work order ∷ [])
+            × IsIn header.now.big (seat_for number work order)) }
         ensures op { IfOk result (λ op. option_to_list op ≡ ops_of work) }
         ensures stays { OnErr result (self.new ≡ self.old) }
     {
@@ -303,7 +306,8 @@ impl Slots {
     )
         requires done { IsDone (sessions_of plan.now) op }
         requires stand { (ps : List Numbered) × (rest : List (Entry Card)) × StandFor plan.now ps self.old (entry_of op ∷ rest) }
-        ensures stand { (ps : List Numbered) (rest : List (Entry Card)) → StandFor plan.now ps self.old (entry_of op ∷ rest) → StandFor plan.now ps self.new rest }
+        ensures stand { (ps : List Numbered) (rest : List (Entry Card)) → StandFor plan.now ps self.old (entry_of op ∷ rest)
+            → StandFor plan.now ps self.new rest }
         ensures order { AllIn header.now.big self.old → AllIn header.now.big self.new }
     {
         let number = op.cargo().packet;

@@ -1,4 +1,5 @@
 pub mod Source
+pub mod Port
 pub mod Inside
 pub mod Steps
 pub mod Ran

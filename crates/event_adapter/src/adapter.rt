@@ -16,13 +16,18 @@ ghost use Rattle.event_adapter.specs.Inside.{IsDistinct, IsIdle, ids, inside, in
 ghost use Rattle.event_adapter.specs.Steps.{Each, Submitted};
 
 use crate::dealing::take_step;
-use crate::queue_pair::QueuePair;
+use crate::queue_pair::{QueuePair, WAITING};
 use crate::steps::{complete_all, find, offer_all};
 use crate::{AdapterMode, AddQpRefused, DelRefused, EventBurst, EventPort, Moved, Unknown};
 use crypto_model::OutOfMemory;
 use crypto_op::OpBurst;
 use dev_core::Driver;
 use std::alloc::Global;
+
+const QUEUE_PAIRS: usize = 8;
+
+// The room of the out buffer.
+const LEAVING: usize = 64;
 
 /// Queue pairs between an event port and devices: an in buffer of 32 operations for each of at most eight, and an
 /// out buffer of 64 events for all. Only `new` takes memory.
@@ -55,9 +60,9 @@ fn make_idle<C: Drop>(alloc: Global) -> Result<Vec<OpBurst<C>>, OutOfMemory>
     ensures capacity { IfOk result (λ v. 8 ≤ vec_capacity v) }
     ensures idle { IfOk result (λ v. All IsIdle v.items) }
 {
-    let mut idle = Vec::with_capacity(alloc, 8)?;
+    let mut idle = Vec::with_capacity(alloc, QUEUE_PAIRS)?;
     for _i in 0..8usize {
-        let burst = OpBurst::new(alloc, 32)?;
+        let burst = OpBurst::new(alloc, WAITING)?;
         match idle.push(burst) {
             Ok(()) => {}
             Err(_) => unreachable!(),
@@ -78,11 +83,11 @@ impl<C: Drop, D> Adapter<C, D> {
         ensures moved { IfOk result (λ a. moved_of a ≡ none_moved) }
     {
         let idle = make_idle(alloc)?;
-        let out = EventBurst::new(alloc, 64)?;
-        let scratch = OpBurst::new(alloc, 64)?;
-        let taken = EventBurst::new(alloc, 32)?;
-        let handed = Vec::with_capacity(alloc, 8)?;
-        let pairs = match Vec::with_capacity(alloc, 8) {
+        let out = EventBurst::new(alloc, LEAVING)?;
+        let scratch = OpBurst::new(alloc, LEAVING)?;
+        let taken = EventBurst::new(alloc, WAITING)?;
+        let handed = Vec::with_capacity(alloc, QUEUE_PAIRS)?;
+        let pairs = match Vec::with_capacity(alloc, QUEUE_PAIRS) {
             Ok(pairs) => pairs,
             Err(e) => {
                 handed.destroy_empty();
@@ -262,7 +267,7 @@ impl<C, D: Driver<C>> Adapter<C, D> {
         match find(&self.pairs, id) {
             Some(_) => Err(AddQpRefused::AlreadyAdded(dev)),
             None => {
-                if self.pairs.len() == 8 {
+                if self.pairs.len() == QUEUE_PAIRS {
                     return Err(AddQpRefused::TooManyPairs(dev));
                 }
                 let waiting = take_idle(&mut self.idle);

@@ -11,7 +11,7 @@ ghost use Rattle.event_adapter.specs.Ran.{TakesFrom, most_taken};
 ghost use Rattle.event_adapter.specs.Source.{IsUntouched, source_of};
 ghost use Rattle.event_adapter.specs.Steps.{Dealt, Each};
 
-use crate::queue_pair::QueuePair;
+use crate::queue_pair::{QueuePair, WAITING};
 use crate::steps::find;
 use crate::{AdapterMode, Event, EventBurst, EventPort};
 use dev_core::Driver;
@@ -20,7 +20,7 @@ use dev_core::Driver;
 fn least_in_room<C, D>(pairs: &Vec<QueuePair<C, D>>) -> usize
     ensures { result ≡ least_room pairs.now.items }
 {
-    let mut least = 32;
+    let mut least = WAITING;
     for i in 0..pairs.len() {
         let room = pairs[i].waiting.room();
         if room < least {

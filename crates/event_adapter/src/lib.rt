@@ -28,6 +28,7 @@ mod burst;
 mod dealing;
 mod event;
 mod join;
+mod mem_port;
 mod moved;
 mod port;
 mod queue_pair;
@@ -37,11 +38,10 @@ mod steps;
 pub use adapter::Adapter;
 pub use burst::EventBurst;
 pub use event::{Event, EventKind};
+pub use mem_port::MemPort;
 pub use moved::{AdapterMode, Moved};
 pub use port::EventPort;
 pub use refused::{AddQpRefused, DelRefused, Unknown};
 
-#[cfg(test)]
-mod test_port;
 #[cfg(test)]
 mod tests;

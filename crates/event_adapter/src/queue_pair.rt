@@ -8,6 +8,9 @@ use crate::{EventBurst, EventKind};
 use crypto_op::{Op, OpBurst};
 use dev_core::Driver;
 
+/// How many operations an in buffer has room for, and how many events are taken at once.
+pub(crate) const WAITING: usize = 32;
+
 /// A device under an id, and the in buffer of the operations that wait for it.
 #[derive(Drop)]
 pub struct QueuePair<C, D> {

@@ -1,11 +1,13 @@
 ghost use Rattle.std.specs.Prelude.{◌≡◌, [], IfOk};
 ghost use Rattle.event_adapter.specs.Source.{IsUntouched};
 
-use crate::test_port::TestPort;
-use crate::{Adapter, AdapterMode, AddQpRefused, DelRefused, Event, EventKind, Moved};
+use crate::{
+    Adapter, AdapterMode, AddQpRefused, DelRefused, Event, EventBurst, EventKind, EventPort,
+    MemPort, Moved,
+};
 use crypto_model::{DigestPlace, Range, SessId};
 use crypto_op::{Aad, Iv, Op, OpSpec};
-use dev_core::{Device, Driver, Kind, Limits, StallDriver};
+use dev_core::{Device, Driver, Kind, LimitList, Limits, StallDriver};
 use mbuf_chain::Mbuf;
 use seg_list::Seg;
 use std::alloc::Global;
@@ -16,8 +18,8 @@ use sym_session::SessionTable;
 
 type Stalling = StallDriver<PlainDriver<u64>>;
 
-// An event for queue pair 5, with an operation of a session that no table has.
-fn event(alloc: Global, cargo: u64) -> Result<Event<u64>, Fail>
+// An event for this queue pair, with an operation of a session that no table has.
+fn event(alloc: Global, qp: u8, cargo: u64) -> Result<Event<u64>, Fail>
     ensures { IfOk result IsUntouched }
 {
     let spec = OpSpec {
@@ -35,7 +37,7 @@ fn event(alloc: Global, cargo: u64) -> Result<Event<u64>, Fail>
         .ok_or("no memory")?;
     Ok(Event {
         kind: EventKind::New,
-        qp: 5,
+        qp,
         op: Op::new(spec, chain, cargo),
     })
 }
@@ -50,13 +52,23 @@ fn device(alloc: Global, enqueue: Limits) -> Result<Stalling, Fail>
     Ok(device)
 }
 
-// A port with so many events, which sends at most `limit` in a call.
-fn port(alloc: Global, events: u64, limit: usize) -> Result<TestPort<u64>, Fail> {
-    let mut port = TestPort::new(alloc, 256, limit)?;
+// A port with so many events for queue pair 5, which sends at most `limit` in a call.
+fn port(alloc: Global, events: u64, limit: u32) -> Result<MemPort<u64>, Fail> {
+    let mut port = MemPort::new(alloc, 256, Limits::Never, Limits::Always(limit))?;
     for i in 0..events {
-        port.put(event(alloc, i)?)?;
+        put(&mut port, event(alloc, 5, i)?)?;
     }
     Ok(port)
+}
+
+fn put(port: &mut MemPort<u64>, e: Event<u64>) -> Result<(), Fail>
+    requires { IsUntouched e }
+{
+    if port.room() == 0 {
+        return Err("the port is full".into());
+    }
+    port.put(e);
+    Ok(())
 }
 
 // An adapter in mode Forward with this device as queue pair 5.
@@ -70,7 +82,7 @@ fn adapter(alloc: Global, device: Stalling) -> Result<Adapter<u64, Stalling>, Fa
     }
 }
 
-fn run(adapter: &mut Adapter<u64, Stalling>, port: &mut TestPort<u64>, runs: usize) {
+fn run(adapter: &mut Adapter<u64, Stalling>, port: &mut MemPort<u64>, runs: usize) {
     for _i in 0..runs {
         adapter.run_once(port);
     }
@@ -119,7 +131,7 @@ fn what_a_full_port_does_not_take_stays_inside(rt: HostRuntime) -> Result<(), Fa
     };
     for runs in [4, 3] {
         run(&mut adapter, &mut port, runs);
-        assert_eq!(rt; (adapter.stats(), port.left()), (inside, 104));
+        assert_eq!(rt; (adapter.stats(), port.waiting()), (inside, 104));
         assert!(rt; matches!(adapter.queue_pair_del(5), Err(DelRefused::Pending(96))));
     }
     let mut devices = adapter.break_up();
@@ -127,3 +139,5 @@ fn what_a_full_port_does_not_take_stays_inside(rt: HostRuntime) -> Result<(), Fa
     assert_eq!(rt; (devices.len(), device.held()), (0, 32));
     Ok(())
 }
+
+mod list_model;

@@ -1,7 +1,7 @@
 use Rattle.std.proofs.Common.{◌≡◌, ◌∷◌, drop, ◌∙◌, sym, arith, rules}
 use Rattle.std.proofs.lemmas.Grind.{common_steps}
 use Rattle.crypto_op.proofs.Steps.{front_next, rest_next}
-use Rattle.event_adapter.proofs.test_port.hand_in.Goals as goal
+use Rattle.event_adapter.proofs.mem_port.hand_in.Goals as goal
 
 pub loop-i-preserved : goal.loop-i-preserved
 loop-i-preserved g c =

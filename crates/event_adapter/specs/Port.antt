@@ -1,5 +1,5 @@
 -- A port in memory.
-use Rattle.std.specs.Prelude.{ℕ, ◌+◌, ◌-◌, min, Option, None, Some, List, length}
+use Rattle.std.specs.Prelude.{ℕ, min, Option, None, Some, List, length}
 use Rattle.crypto_op.specs.Burst.{Burst}
 use Rattle.dev_core.specs.Burst.{room_of}
 use Rattle.dev_core.specs.Limits.{next_limit, least}

@@ -56,7 +56,8 @@ most_taken ps out inbox = min (min (least_room ps) (64 - length out)) (length in
 -- The steps of a run in their order, behind the sending of `m.sent` events: each device gives answers, as far as the out
 -- buffer has room; each is offered what waits; events are taken, and join the in buffer of their queue pair, or go out as
 -- they are.
-pub record Ran {C D P : Type 0} (driver : Ghosts D C) (port : PortGhosts P C) (mode : AdapterMode) (old new : P) (ps qs : List (QueuePair C D)) (out0 out1 : List (Event C)) (m : Moved) : Type 0 where
+pub record Ran {C D P : Type 0} (driver : Ghosts D C) (port : PortGhosts P C) (mode : AdapterMode) (old new : P) (ps qs : List (QueuePair C D))
+    (out0 out1 : List (Event C)) (m : Moved) : Type 0 where
   pub mids : List (QueuePair C D)
   pub laters : List (QueuePair C D)
   pub answers : List (Event C)
@@ -65,7 +66,8 @@ pub record Ran {C D P : Type 0} (driver : Ghosts D C) (port : PortGhosts P C) (m
   pub offering : Along (Offered driver) 0 mids laters accepted
   pub dealing : Each (Dealt (take m.taken (port.inbox old))) laters qs
   pub out : out1 ≡ (drop m.sent out0 ++ answers) ++ strangers ps (take m.taken (port.inbox old))
-  pub served : (k : ℕ) (d : QueuePair C D) → k < length ps → Served driver (take m.taken (port.inbox old)) (slice_index_or ps k d) (slice_index_or mids k d) (slice_index_or qs k d)
+  pub served : (k : ℕ) (d : QueuePair C D) → k < length ps
+      → Served driver (take m.taken (port.inbox old)) (slice_index_or ps k d) (slice_index_or mids k d) (slice_index_or qs k d)
   pub completed : m.completed ≡ length answers
   pub submitted : m.submitted ≡ length accepted
   pub none_taken : mode ≡ New → m.taken ≡ 0
@@ -74,7 +76,8 @@ pub record Ran {C D P : Type 0} (driver : Ghosts D C) (port : PortGhosts P C) (m
   pub told : mode ≡ Forward → ForSome (port.spare old) (λ _. m.taken ≡ most_taken laters (drop m.sent out0 ++ answers) (port.inbox old))
 
 -- n events go from a port to the in buffers of their queue pairs, or out as they are
-pub record TakesFrom {C D P : Type 0} (driver : Ghosts D C) (port : PortGhosts P C) (n : ℕ) (old new : P) (ps qs : List (QueuePair C D)) (out0 out1 : Burst (Event C)) : Type 0 where
+pub record TakesFrom {C D P : Type 0} (driver : Ghosts D C) (port : PortGhosts P C) (n : ℕ) (old new : P) (ps qs : List (QueuePair C D))
+    (out0 out1 : Burst (Event C)) : Type 0 where
   pub within : n ≤ most_taken ps out0.ops (port.inbox old)
   pub dealing : Each (Dealt (take n (port.inbox old))) ps qs
   pub ids : ids qs ≡ ids ps

@@ -70,7 +70,8 @@ abbrev pub Along : {P E : Type 0} → (ℕ → P → P → List E → Type 0) �
 Along R room [] [] es = es ≡ []
 Along R room [] (q ∷ qs) es = ⊥
 Along R room (p ∷ ps) [] es = ⊥
-Along {P} {E} R room (p ∷ ps) (q ∷ qs) es = (mine : List E) × (others : List E) × (es ≡ mine ++ others) × R room p q mine × Along R (room - length mine) ps qs others
+Along {P} {E} R room (p ∷ ps) (q ∷ qs) es = (mine : List E) × (others : List E) × (es ≡ mine ++ others) × R room p q mine
+    × Along R (room - length mine) ps qs others
 
 -- each queue pair by itself
 abbrev pub Each : {P : Type 0} → (P → P → Type 0) → List P → List P → Type 0

@@ -1,6 +1,6 @@
 //! The adapter.
 ghost use Rattle.std.specs.Prelude.{◌≡◌, ℕ, ◌+◌, ◌-◌, ◌<◌, ◌≤◌, ◌==◌, ◌↔◌, [], ◌∷◌, ◌++◌, length, map, take, drop, option_map, remove, true, false};
-ghost use Rattle.std.specs.Prelude.{IfOk, IsErr, IsErrOf, IsPermutation, OnErr, OnOk, slice_index_or, slice_set};
+ghost use Rattle.std.specs.Prelude.{IfOk, IsErr, IsErrOf, IsOk, IsPermutation, OnErr, OnOk, slice_index_or, slice_set};
 ghost use Rattle.std.specs.Vec.{vec_len, vec_capacity};
 ghost use Rattle.std.specs.List.{All, count_by};
 ghost use Rattle.std.specs.Option.{ForSome};
@@ -260,6 +260,7 @@ impl<C, D: Driver<C>> Adapter<C, D> {
         requires empty { D.held dev ≡ [] }
         ensures already { IsErrOf result (AlreadyAdded dev) ↔ (is_known (pairs_of self.old) id ≡ true) }
         ensures many { IsErrOf result (TooManyPairs dev) ↔ (is_known (pairs_of self.old) id ≡ false) × (length (pairs_of self.old) ≡ 8) }
+        ensures added { IsOk result ↔ (is_known (pairs_of self.old) id ≡ false) × (length (pairs_of self.old) < 8) }
         ensures refused { OnErr result (self.new ≡ self.old) }
         ensures pairs { OnOk result ((p : QueuePair C D) × (pairs_of self.new ≡ pairs_of self.old ++ p ∷ []) × (p.id ≡ id) × (p.dev ≡ dev) × IsIdle p.waiting) }
         ensures rest { KeepsRest self.old self.new }

@@ -14,3 +14,5 @@ mod Settling
 mod WholeReading
 mod Turning
 mod Calling
+mod RouteRuns
+mod Forwards

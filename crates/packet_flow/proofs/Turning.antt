@@ -134,7 +134,7 @@ not_err_at (Err y) e x is other at = other (sym is ∙ (let same : y ≡ x = cc 
 pub enqueued_few : (plan : Plan) (b : Before) (s_tells k_tells : Type 0) (p : Passage) (o : Outside) → IsUnderway plan b s_tells k_tells p o → o.enqueued < 2 ^ 32
 enqueued_few plan b s_tells k_tells p o u = omega (arith, few_taken plan b s_tells k_tells p o u, u.device.enqueued_is)
 
-counted : (moved r : ℕ) → r ≡ from_bool (moved == 0) → ((moved ≡ 0) × (r ≡ 1)) ⊎ ((0 < moved) × (r ≡ 0))
+pub counted : (moved r : ℕ) → r ≡ from_bool (moved == 0) → ((moved ≡ 0) × (r ≡ 1)) ⊎ ((0 < moved) × (r ≡ 0))
 counted zero r is = inl (refl, is ∙ ap from_bool (same_told 0))
 counted (suc m) r is =
     let other : (suc m == 0) ≡ false = grind (arith, nat_tests) in

@@ -14,3 +14,5 @@ pub mod Flowed
 pub mod Writing
 pub mod Passage
 pub mod Filling
+pub mod Routes
+pub mod Forwarding

@@ -45,8 +45,10 @@
 mod counts;
 mod filling;
 mod flow;
+mod forwarding;
 mod mark;
 mod passage;
+mod route;
 mod run;
 mod slots;
 mod turn;
@@ -54,6 +56,7 @@ mod window;
 
 pub use counts::Counts;
 pub use flow::{Flow, FlowEnd, PATIENCE, Sizes, transfer};
+pub use forwarding::{Forwarded, forward};
 pub use slots::Slots;
 pub use window::{Packet, Window};
 

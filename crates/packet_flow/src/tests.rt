@@ -1,9 +1,11 @@
 //! What a driver is offered, and a window by itself.
-ghost use Rattle.std.specs.Prelude.{◌≡◌, ◌+◌, ◌-◌, ◌<◌, ◌≤◌, min, length, map, take, Some, None};
+ghost use Rattle.std.specs.Prelude.{◌≡◌, ◌+◌, ◌-◌, ◌<◌, ◌≤◌, [], min, length, map, take, Some, None, IfOk};
 ghost use Rattle.crypto_op.specs.Op.{entry_of};
 ghost use Rattle.dev_core.specs.Burst.{rest_of, with_ops};
+ghost use Rattle.dev_core.specs.Stats.{no_stats};
+ghost use Rattle.packet_plan.specs.Asked.{sessions_of};
 
-use crate::{FlowEnd, Sizes, Window, transfer};
+use crate::{Flow, FlowEnd, Forwarded, Sizes, Window, forward, transfer};
 use capture_io::{Header, MemSink, MemSource, ReadStop};
 use crypto_op::{Card, OpBurst};
 use dev_core::{Driver, Stats};
@@ -125,19 +127,35 @@ fn records(alloc: Global, packets: &[u8]) -> Result<Vec<u8>, Fail> {
     Ok(bytes)
 }
 
-// Offers the operations of these packets in bursts of at most 32 to a driver that takes `most` of each.
-fn keep(alloc: Global, packets: &[u8], most: usize) -> Result<Keeper, Fail>
+// A driver with room for 128 operations that takes at most `most` of a burst.
+fn new_keeper(alloc: Global, plan: &ReadyPlan, most: usize) -> Result<Keeper, Fail>
     requires { 0 < most }
+    ensures { IfOk result (λ d. (d.kept.ops ≡ []) × (d.stats ≡ no_stats) × (d.sessions ≡ sessions_of plan.now)) }
 {
-    let plan = ReadyPlan::new(alloc, parse(alloc, PLAN)?)?;
-    let mut dev = Keeper {
+    Ok(Keeper {
         sessions: plan.table(alloc)?,
         most,
         kept: OpBurst::new(alloc, 128)?,
         stalls: 0,
         stats: Stats::new(),
         offers: Vec::new(alloc),
-    };
+    })
+}
+
+// The driver, where the flow stalled in the end.
+fn if_stalled(flow: Flow, dev: Keeper) -> Result<Keeper, Fail> {
+    if flow.end != FlowEnd::Stalled {
+        return Err("it ended otherwise".into());
+    }
+    Ok(dev)
+}
+
+// Offers the operations of these packets in bursts of at most 32 to a driver that takes `most` of each.
+fn keep(alloc: Global, packets: &[u8], most: usize) -> Result<Keeper, Fail>
+    requires { 0 < most }
+{
+    let plan = ReadyPlan::new(alloc, parse(alloc, PLAN)?)?;
+    let mut dev = new_keeper(alloc, &plan, most)?;
     let mut src = MemSource::new(records(alloc, packets)?, 1000, Vec::new(alloc));
     let mut out = MemSink::new(alloc, 1000, Vec::new(alloc))?;
     let mut store = FreshSegs::new(alloc);
@@ -148,10 +166,23 @@ fn keep(alloc: Global, packets: &[u8], most: usize) -> Result<Keeper, Fail>
     let flow = transfer(
         alloc, &plan, sizes, &HEADER, &mut src, &mut store, &mut out, &mut dev,
     );
-    if flow.end != FlowEnd::Stalled {
-        return Err("it ended otherwise".into());
-    }
-    Ok(dev)
+    if_stalled(flow, dev)
+}
+
+// The same through an event adapter.
+fn keep_forwarded(alloc: Global, packets: &[u8], most: usize) -> Result<Keeper, Fail>
+    requires { 0 < most }
+{
+    let plan = ReadyPlan::new(alloc, parse(alloc, PLAN)?)?;
+    let dev = new_keeper(alloc, &plan, most)?;
+    let mut src = MemSource::new(records(alloc, packets)?, 1000, Vec::new(alloc));
+    let mut out = MemSink::new(alloc, 1000, Vec::new(alloc))?;
+    let mut store = FreshSegs::new(alloc);
+    let forwarded = forward(
+        alloc, &plan, 16, &HEADER, &mut src, &mut store, &mut out, dev,
+    );
+    let Forwarded { flow, dev } = forwarded;
+    if_stalled(flow, dev)
 }
 
 #[test]
@@ -166,6 +197,21 @@ fn a_burst_is_offered_to_its_end_before_the_next_and_no_empty_one(
     ];
     for (most, offers) in cases {
         let dev = keep(alloc, &[1; 70], most)?;
+        assert_eq!(rt; dev.offers.as_slice(), offers, "{most}");
+    }
+    Ok(())
+}
+
+#[test]
+fn an_adapter_offers_what_waits_filled_up_again(rt: HostRuntime) -> Result<(), Fail> {
+    let alloc = rt.alloc();
+    let cases: [(usize, &[usize]); 3] = [
+        (32, &[32, 32, 6]),
+        (31, &[32, 32, 8]),
+        (20, &[32, 32, 30, 10]),
+    ];
+    for (most, offers) in cases {
+        let dev = keep_forwarded(alloc, &[1; 70], most)?;
         assert_eq!(rt; dev.offers.as_slice(), offers, "{most}");
     }
     Ok(())

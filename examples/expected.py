@@ -69,16 +69,31 @@ ONE = "mode=round-robin,worker=plain"
 TWO = "worker=plain,worker=plain"
 CRYPT = f"crypt --vdev {ONE} --sessions"
 
-# The case's name, its session file, whether that seals, the scheduler text, and the burst size, if the words give one.
+# The case's name, its command, its session file, whether that seals, the scheduler text, and the burst size, if the words give one.
 GATEWAY = [
-    ("gateway", "gateway", True, ONE, None),
-    ("gateway-inward", "gateway-inward", False, ONE, 7),
-    ("gateway-in-turn", "gateway", True, f"mode=round-robin,{TWO},ordering=enable", 32),
-    ("gateway-by-size", "gateway", True, f"mode=packet-size-distr,{TWO},mode_param=threshold:256", 32),
-    ("gateway-fail-over", "gateway-inward", False, f"mode=fail-over,{TWO},ordering=enable", 256),
+    ("gateway", "crypt", "gateway", True, ONE, None),
+    ("gateway-inward", "crypt", "gateway-inward", False, ONE, 7),
+    ("gateway-in-turn", "crypt", "gateway", True, f"mode=round-robin,{TWO},ordering=enable", 32),
+    (
+        "gateway-by-size",
+        "crypt",
+        "gateway",
+        True,
+        f"mode=packet-size-distr,{TWO},mode_param=threshold:256",
+        32,
+    ),
+    (
+        "gateway-fail-over",
+        "crypt",
+        "gateway-inward",
+        False,
+        f"mode=fail-over,{TWO},ordering=enable",
+        256,
+    ),
+    ("gateway-forward", "forward", "gateway", True, f"mode=round-robin,{TWO}", None),
 ]
 
-# Calls of crypt that end before the capture is read, and their reports.
+# Calls that end before the capture is read, and their reports.
 REFUSED = [
     ("sessions-folder", f"{CRYPT} examples", "status=5 read fault"),
     ("sessions-missing", f"{CRYPT} examples/none", "status=5 read fault"),
@@ -99,6 +114,11 @@ REFUSED = [
         "status=2 usage",
     ),
     ("burst-zero", f"{CRYPT} examples/gateway.sessions --burst 0", "status=2 usage"),
+    (
+        "forward-burst",
+        f"forward --vdev {ONE} --sessions examples/gateway.sessions --burst 32",
+        "status=2 usage",
+    ),
 ]
 
 
@@ -135,7 +155,7 @@ def write(name, data):
 def gateway():
     """What is sealed of mixed.pcap, and the reports. Opened, it has to be that capture again."""
     captures = {True: read(FOLDER, "mixed.pcap")}
-    for name, sessions, seals, vdev, burst in GATEWAY:
+    for name, _, sessions, seals, vdev, burst in GATEWAY:
         text = read(HERE, f"{sessions}.sessions").decode()
         made, _, told = reference.crypt(text, captures[seals], vdev, burst or 32)
         write(f"expected/{name}.report", told)
@@ -173,9 +193,9 @@ for name, source, key, salt, packets, last in CASES:
 for name, words in USAGE:
     report(name, None, "status=2 usage")
     table.append(f"{name} vector.pcap 2 none {words}".rstrip())
-for name, sessions, seals, vdev, burst in GATEWAY:
+for name, command, sessions, seals, vdev, burst in GATEWAY:
     files = "mixed.pcap 0 expected/gateway.pcap" if seals else "expected/gateway.pcap 0 mixed.pcap"
-    words = f"crypt --vdev {vdev} --sessions examples/{sessions}.sessions"
+    words = f"{command} --vdev {vdev} --sessions examples/{sessions}.sessions"
     table.append(f"{name} {files} {words}" + (f" --burst {burst}" if burst else ""))
 for name, words, last in REFUSED:
     report(name, None, last)

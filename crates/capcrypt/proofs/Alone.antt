@@ -9,7 +9,7 @@ use Rattle.packet_plan.specs.Asked.{sessions_of}
 use Rattle.sched_modes.specs.Crew.{total}
 use Rattle.sched_modes.specs.Dealing.{IsFrontOf}
 use Rattle.capcrypt.specs.declared.ending.Ending.{Ending}
-use Rattle.capcrypt.specs.Dealing.{Alone}
+use Rattle.capcrypt.specs.declared.dealing.Dealing.TheVariants.{Alone}
 use Rattle.capcrypt.specs.Devices.{DeviceNow, HasStalledOut, HaveStalledOut, at, taken_together}
 use Rattle.capcrypt.specs.Served.{HasServed, HaveServed, WasSetUp}
 use Rattle.capcrypt.specs.Ran.{IsDecided, IsDriven}
@@ -39,7 +39,7 @@ told_since taken now emptied log is told = told ∙ ap (option_map (λ l. taken)
 whole_front : (ops taken : List LogEntry) → IsFrontOf ops taken → length taken ≡ length ops → taken ≡ ops
 whole_front ops taken front same = front.1 ∙ take_all front.0 ops (omega (arith, same, ap length front.1, length-take front.0 ops))
 
-short_front : (ops taken : List LogEntry) → IsFrontOf ops taken → length taken ≤ length ops
+pub short_front : (ops taken : List LogEntry) → IsFrontOf ops taken → length taken ≤ length ops
 short_front ops taken front = omega (arith, ap length front.1, length-take front.0 ops)
 
 -- a device that is as it was is put back

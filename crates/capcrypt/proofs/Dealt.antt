@@ -1,8 +1,9 @@
 -- A run whose operations a scheduler deals to several devices.
-use Rattle.std.proofs.Common.{◌≡◌, ℕ, zero, suc, ◌+◌, ◌-◌, ◌<◌, ◌≤◌, List, [], ◌∷◌, length, get_or, map, take, drop, Option, Some, refl, ap, sym, subst, ◌∙◌, arith}
+use Rattle.std.proofs.Common.{◌≡◌, ◌==◌, ℕ, zero, suc, ◌+◌, ◌-◌, ◌<◌, ◌≤◌, Bool, true, false, eqb-true, List, [], ◌∷◌, ◌++◌, length, get_or, map, take, drop, Option, None, Some, refl, ap, sym, subst, ◌∙◌, arith}
 use Rattle.dev_core.specs.Offers.{taken_by}
 use Rattle.std.specs.Prelude.{option_map}
 use Rattle.std.specs.List.{sum_by}
+use Rattle.std.proofs.lemmas.Bool.Decides.{nat_tests}
 use Rattle.std.proofs.lemmas.List.Sums.{sum_by-cons}
 use Rattle.crypto_model.specs.Counts.{capped, Rose}
 use Rattle.crypto_model.specs.Process.{Transform}
@@ -30,9 +31,10 @@ use Rattle.sched_modes.proofs.Bursts.{total_same}
 use Rattle.sched_modes.proofs.Crews.{count_workers, worker_at}
 use Rattle.sched_modes.proofs.Dealing.{has_dealt, sums}
 use Rattle.capcrypt.specs.declared.ending.Ending.{Ending}
-use Rattle.capcrypt.specs.Dealing.{Scheduled, scheduler_of}
+use Rattle.capcrypt.specs.declared.dealing.Dealing.TheVariants.{Forwarded, Scheduled}
+use Rattle.capcrypt.specs.Dealing.{scheduler_of}
 use Rattle.capcrypt.specs.Devices.{DeviceNow, HasStalledOut, HaveStalledOut, NoneRose, at, device_now, stalled_together, taken_together}
-use Rattle.capcrypt.specs.Ran.{IsDecided, IsDriven}
+use Rattle.capcrypt.specs.Ran.{IsAccepted, IsDecided, IsDriven}
 use Rattle.capcrypt.specs.Served.{WereSetUp, HasServed, HaveServed, WasSetUp}
 use Rattle.capcrypt.proofs.Alone.{told_since}
 use Rattle.capcrypt.proofs.Limits.{numbered_again}
@@ -81,6 +83,18 @@ total_capped (suc w) f g same =
     let r = total_capped w f g (λ k lt. same k (omega (arith, lt))) in
     let l = same w (omega arith) in
     omega (arith, r, l)
+
+part_of : (w : ℕ) (f : ℕ → ℕ) (k : ℕ) → k < w → f k ≤ total w f
+part_of zero f k lt = absurd (omega (arith, lt))
+part_of (suc w) f k lt = by_place (k == w) refl (part_of w f k) where
+  by_place : (b : Bool) → (k == w) ≡ b → (k < w → f k ≤ total w f) → f k ≤ total w f + f w
+  by_place true is earlier = let here : k ≡ w = eqb-true k w is in omega (arith, ap f here)
+  by_place false is earlier = let below : k < w = grind (arith, nat_tests) in let r = earlier below in omega (arith, r)
+
+-- a log that was emptied, and what was told since
+log_from : (taken : List LogEntry) (now emptied log : Option (List LogEntry)) → emptied ≡ option_map (λ l. []) log → now ≡ option_map (λ l. l ++ taken) emptied → now ≡ option_map (λ l. taken) log
+log_from taken now emptied None is told = told ∙ ap (option_map (λ (l : List LogEntry). l ++ taken)) is
+log_from taken now emptied (Some l) is told = told ∙ ap (option_map (λ (x : List LogEntry). x ++ taken)) is
 
 -- as many stalls as a run suffers, of sums that stand still at their last value
 stalls_capped : (before now enqueued taken old new : ℕ) → old ≡ capped before → new ≡ capped now → capped enqueued ≡ capped taken → HasStalledOut old enqueued new → HasStalledOut before taken now
@@ -202,6 +216,50 @@ module _ {D : Type 0} (m : Ghosts D Card) (limit : D → ℕ) (room_told : (d : 
       let fits : w ≤ length (pool_of first).devs.items = omega (arith, within, count, ap length begun) in
       stalls_capped (stalled_together w (map f devs)) (stalled_together w (map f back)) (pool_of last).stats.enqueued (taken_together w (map f back)) (stalls_in (pool_of first)) (stalls_in (pool_of last))
       (stalls_are (pool_of first) workers fits ∙ ap capped same_stalls) (stalls_are (pool_of last) (on.went.workers ∙ workers) (omega (arith, within, same_count))) same_taken out
+
+  -- ---- what an adapter over the scheduler gave
+
+  -- each worker took its part, whatever bursts were offered
+  module _ (ops : List LogEntry) (e : Ending) (given : IsAccepted ops e (pool_of last).stats.enqueued) (worker : 1 ≤ text.workers) where
+    all_parts : total w (λ k. length (on.parts k)) ≡ (pool_of last).stats.enqueued
+    all_parts =
+        let none : (pool_of first).stats.enqueued ≡ 0 = ap (λ (x : Stats). x.enqueued) started.stats in
+        let parts : total (pool_of first).workers (λ k. length (on.parts k)) ≡ total w (λ k. length (on.parts k)) = ap (λ (n : ℕ). total n (λ k. length (on.parts k))) workers in
+        omega (arith, on.enqueued, none, parts, given.most, given.few)
+
+    part_counted : (k : ℕ) (d : D) → k < w → (m.stats (get_or back k d)).enqueued ≡ length (on.parts k)
+    part_counted k d lt = omega (arith, (goes k d).took.enqueued, (ready k d lt).served.enqueued, part_of w (λ i. length (on.parts i)) k lt, all_parts, given.most, given.few)
+
+    each_given : (k : ℕ) → k < w → HasServed plan (on.parts k) (at (map f devs) k).log (at (map f back) k)
+    each_given k lt =
+        let d = some_device k lt in
+        let r = ready k d lt in
+        let g = goes k d in
+        subst (λ (x : DeviceNow). HasServed plan (on.parts k) (at (map f devs) k).log x) (sym (is_at k d lt))
+        (subst (λ (x : DeviceNow). HasServed plan (on.parts k) x.log (f (get_or back k d))) (sym (was_at k d lt)) (record {
+          depth = keeps_depth (get_or mid k d) (get_or back k d) g.on ∙ r.served.depth;
+          sessions = g.sessions ∙ r.served.sessions;
+          enqueued = part_counted k d lt;
+          log = log_from (on.parts k) (m.log (get_or back k d)) (m.log (get_or mid k d)) (m.log (get_or devs k d)) r.served.log g.took.log;
+        }))
+
+    given_together : taken_together w (map f back) ≡ (pool_of last).stats.enqueued
+    given_together =
+        total_same w (λ i. (at (map f back) i).enqueued) (λ k. length (on.parts k)) (λ k lt.
+        let d = some_device k lt in
+        ap (λ (x : DeviceNow). x.enqueued) (is_at k d lt) ∙ part_counted k d lt) ∙ all_parts
+
+    pub forwarded_served : HaveServed (record { plan = plan; burst = burst; dealing = Forwarded text }) ops (map f devs) (map f back)
+    forwarded_served = record {
+      given = on.parts;
+      each = each_given;
+      few = omega (arith, given_together, given.most);
+      fronts = λ known. absurd known;
+      whole = λ known. absurd known;
+    }
+
+    pub forwarded_whole : IsDecided e → taken_together w (map f back) ≡ length ops
+    forwarded_whole decided = omega (arith, given_together, given.whole decided)
 
   -- the devices behind the workers are as they were
   pub dealt_others : drop w mid ≡ drop w devs → drop w back ≡ drop w devs

@@ -1,5 +1,5 @@
 -- How each way out of a run meets what is said of the run.
-use Rattle.std.proofs.Common.{◌≡◌, ◌⊎◌, inl, inr, ℕ, Bool, true, false, ◌+◌, ◌<◌, ◌≤◌, List, [], ◌∷◌, ◌++◌, length, take, drop, refl, ◌∙◌, ap, sym, subst, arith, append_assoc, length-append, length-take, length-drop}
+use Rattle.std.proofs.Common.{◌≡◌, ◌⊎◌, inl, inr, ℕ, Bool, true, false, ◌+◌, ◌<◌, ◌≤◌, List, [], ◌∷◌, ◌++◌, length, map, take, drop, refl, ◌∙◌, ap, sym, subst, arith, append_assoc, length-append, length-take, length-drop}
 use Rattle.std.specs.Prelude.{Ok, Err}
 use Rattle.std.proofs.lemmas.List.{append-nil, take_all, take-append-le, take-append-drop}
 use Rattle.std.proofs.lemmas.List.Concat.{flat_map-append}
@@ -24,12 +24,15 @@ use Rattle.packet_flow.specs.Reads.{ReadsAs}
 use Rattle.capcrypt.specs.declared.ending.Outcome.{Outcome}
 use Rattle.capcrypt.specs.declared.ending.Ending.{Ending}
 use Rattle.capcrypt.specs.declared.ending.Ending.TheVariants.{Done, Memory, Usage, Vdev, Capture, Sessions, ReadFault, WriteFault, Stalled, TooLarge}
-use Rattle.capcrypt.specs.Dealing.{Dealing, workers_of}
+use Rattle.capcrypt.specs.declared.dealing.Dealing.{Dealing}
+use Rattle.capcrypt.specs.Dealing.{workers_of}
 use Rattle.capcrypt.specs.Devices.{DeviceNow, at, taken_together}
+use Rattle.capcrypt.specs.Launched.{IsWanting}
 use Rattle.capcrypt.specs.Served.{HaveServed, WasSetUp}
 use Rattle.capcrypt.specs.Start.{Settings, Start, Begins, Stops}
 use Rattle.capcrypt.specs.Written.{raised, ending_at}
 use Rattle.capcrypt.specs.Ran.{HasAppended, Job, IsWritten, IsDecided, IsLate, AppendsRecords, AppendsUpto, flow_ending, stop_ending}
+use Rattle.capcrypt.proofs.Dealt.{ready_at}
 
 -- no record is empty
 length-spelled : (big : Bool) (x : ℕ) → length (spelled big 4 x) ≡ 4
@@ -398,6 +401,14 @@ module _ (plan : Plan) (burst : ℕ) (x d : Dealing) (is : x ≡ d) (h : Header)
   served_by wrote header devices serves whole =
       served (by x) h rs rest o old new kept before now wrote header devices (subst (λ (y : Dealing). HaveServed (by y) (entries_from plan 0 rs) before now) (sym is) serves)
       (λ k. subst (λ (y : Dealing). taken_together (workers_of y) now ≡ length (entries_from plan 0 rs)) (sym is) (whole k))
+
+-- memory was wanting where its devices were set up
+pub wanting_back : {D : Type 0} (f : D → DeviceNow) (plan : Plan) (burst : ℕ) (x d : Dealing) (is : x ≡ d) (h : Header) (rs : List Rec) (rest : Rest) (o : Outcome) (old : List ℕ) (devs back : List D)
+    → IsWanting f plan (workers_of d) devs back → workers_of d ≤ length devs → o ≡ record { ending = Memory; counts = counts_of []; header = true; devices = workers_of d }
+    → Job (Begins (record { plan = plan; burst = burst; dealing = x })) (Holds h rs rest) o old old (λ n. drop n back ≡ drop n devs) (map f devs) (map f back)
+wanting_back f plan burst x d is h rs rest o old devs back w within same =
+    wanting_by plan burst x d is h rs rest o old old (λ n. drop n back ≡ drop n devs) (map f devs) (map f back) w.n w.few same refl
+    (ready_at f plan w.n devs back (omega (arith, w.few, within)) w.count w.ready) w.others
 
 -- ---- a run that ended at the capture's header
 

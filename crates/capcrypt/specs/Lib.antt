@@ -4,6 +4,7 @@ pub mod Written
 pub mod Place
 pub mod Devices
 pub mod Served
+pub mod Launched
 pub mod Report
 pub mod Ran
 pub mod LineText

@@ -2,7 +2,7 @@
 use Rattle.std.specs.Prelude.{◌≡◌, ℕ, true, List, [], Option, None, Some, Result, Ok, Err}
 use Rattle.sha2.specs.Sha256.{sha256}
 use Rattle.capture_io.specs.Generated.{generated}
-use Rattle.command_words.specs.Asked.{Wanted, AsksQuick, AsksCrypt, AsksGen, Fault}
+use Rattle.command_words.specs.Asked.{Wanted, AsksQuick, AsksCrypt, AsksForward, AsksGen, Fault}
 use Rattle.command_words.specs.declared.generated.Gen.{Gen}
 use Rattle.capcrypt.specs.declared.ending.Outcome.{Outcome}
 
@@ -11,6 +11,7 @@ abbrev pub generated_in : Result Wanted Fault → Option Gen
 generated_in (Ok (AsksGen packets number)) = Some (record { packets = packets; number = number })
 generated_in (Ok (AsksQuick key salt)) = None
 generated_in (Ok (AsksCrypt scheduler sessions burst)) = None
+generated_in (Ok (AsksForward scheduler sessions)) = None
 generated_in (Err fault) = None
 
 abbrev pub IsGenerated : Option Gen → Type 0

@@ -111,6 +111,12 @@ pub record IsDriven (burst : ℕ) (ops : List LogEntry) (e : Ending) (past : Lis
   pub flows : Flows burst ops past
   pub few : length ops < 2 ^ 32
 
+-- How many of these operations a driver accepted where the run ended so: all, where the words and the capture decide the ending.
+pub record IsAccepted (ops : List LogEntry) (e : Ending) (accepted : ℕ) : Type 0 where
+  pub most : accepted ≤ length ops
+  pub whole : IsDecided e → accepted ≡ length ops
+  pub few : length ops < 2 ^ 32
+
 -- What a run whose outcome is this appended, which wrote n records whole.
 pub record HasAppended (start : Start) (reading : Reading) (o : Outcome) (old new : List ℕ) : Type 0 where
   pub n : ℕ

@@ -1,5 +1,5 @@
 //! Packets that are dealt to several devices by a scheduler.
-ghost use Rattle.std.specs.Prelude.{◌≡◌, ◌<◌, ◌≤◌, List, [], length, drop, All, Some, IfOk, IfErr};
+ghost use Rattle.std.specs.Prelude.{◌≡◌, ◌<◌, ◌≤◌, List, [], length, drop, All, IfOk, IfErr};
 ghost use Rattle.std.specs.Arc.{arc_value};
 ghost use Rattle.crypto_model.specs.Counts.{Rose};
 ghost use Rattle.capture_io.specs.Capture.{Rec, Rest, Records, Holds, first_place};
@@ -8,7 +8,9 @@ ghost use Rattle.sched_core.specs.Stopped.{EachAlike};
 ghost use Rattle.sched_modes.specs.Running.{AreIdle, IsStarted};
 ghost use Rattle.command_words.specs.Gives.{RunsOnOneThread};
 ghost use Rattle.capcrypt.specs.Dealing.{scheduler_of};
-ghost use Rattle.capcrypt.specs.Devices.{HaveStalledOut, devices_now};
+ghost use Rattle.capcrypt.specs.declared.dealing.Dealing.TheVariants.{Scheduled};
+ghost use Rattle.capcrypt.specs.Devices.{HaveStalledOut, device_now, devices_now};
+ghost use Rattle.capcrypt.specs.Launched.{IsLaunched, IsWanting};
 ghost use Rattle.capcrypt.specs.Ran.{IsLate, Job};
 ghost use Rattle.capcrypt.specs.Start.{Begins, CanStart, settings_of};
 
@@ -19,6 +21,7 @@ use crate::work::{send_packets, without_packets};
 use capture_io::{Header, Sink, Source};
 use crypto_op::Card;
 use dev_core::Device;
+use packet_plan::ReadyPlan;
 use sched_core::{AttachRefused, SchedText, Scheduler};
 use sched_modes::{Running, StartRefused, start};
 use std::alloc::Global;
@@ -45,9 +48,9 @@ fn attach_each<D: Device<Card>>(scheduler: &mut Scheduler<D>, workers: usize)
     }
 }
 
-/// A scheduler that runs as its text says, over the first of these devices, which have its sessions and hold nothing. Where
-/// memory is wanting the devices come back.
-pub(crate) fn launch<D: Device<Card>>(
+// A scheduler that runs as its text says, over the first of these devices, which have its sessions and hold nothing. Where
+// memory is wanting the devices come back.
+fn launch<D: Device<Card>>(
     alloc: Global,
     text: &SchedText,
     sessions: Arc<SessionTable>,
@@ -73,6 +76,28 @@ pub(crate) fn launch<D: Device<Card>>(
     }
 }
 
+/// The same, over devices that are set up for a plan first. Where memory is wanting the devices come back.
+pub(crate) fn launch_ready<D: Device<Card>>(
+    alloc: Global,
+    plan: &ReadyPlan,
+    text: &SchedText,
+    devs: Vec<D>,
+) -> Result<Running<Card, D>, Vec<D>>
+    requires legal { RunsOnOneThread text.now }
+    requires enough { text.now.workers ≤ length devs.items }
+    requires idle { All (λ d. D.held d ≡ []) devs.items }
+    ensures launched { let now = device_now D.limit D.sessions D.held D.room D.stalls D.stats D.log
+        in IfOk result (λ r. IsLaunched now plan.now text.now devs.items r) }
+    ensures wanting { let now = device_now D.limit D.sessions D.held D.room D.stalls D.stats D.log
+        in IfErr result (λ back. IsWanting now plan.now text.now.workers devs.items back.items) }
+{
+    let mut devs = devs;
+    let Ok(sessions) = set_up_each(alloc, plan, text, &mut devs) else {
+        return Err(devs);
+    };
+    launch(alloc, text, sessions, devs)
+}
+
 /// Sets up the devices that the scheduler's text names, and sends the packets through the scheduler over them.
 pub(crate) fn deal_packets<S: Source, K: Sink, D: Device<Card>>(
     alloc: Global,
@@ -83,7 +108,7 @@ pub(crate) fn deal_packets<S: Source, K: Sink, D: Device<Card>>(
     out: &mut K,
     devs: Vec<D>,
 ) -> (Outcome, Vec<D>)
-    requires text { task.now.scheduler ≡ Some text.now }
+    requires text { task.now.dealing ≡ Scheduled text.now }
     requires can { CanStart task.now (length devs.items) }
     requires idle { All (λ d. D.held d ≡ []) devs.items }
     ensures job { S.tells → K.tells → (rs : List Rec) (rest : Rest) → Records header.now.big first_place (S.left capture.old) rs rest
@@ -104,11 +129,7 @@ pub(crate) fn deal_packets<S: Source, K: Sink, D: Device<Card>>(
     ensures write_steady { K.steady → ¬ (result.0.ending ≡ Ending.WriteFault) → K.faults out.new ≡ K.faults out.old }
     ensures late { IsLate result.0.ending }
 {
-    let mut devs = devs;
-    let Ok(sessions) = set_up_each(alloc, &task.plan, text, &mut devs) else {
-        return (without_packets(Ending::Memory, true, text.workers), devs);
-    };
-    let mut running = match launch(alloc, text, sessions, devs) {
+    let mut running = match launch_ready(alloc, &task.plan, text, devs) {
         Ok(running) => running,
         Err(devs) => return (without_packets(Ending::Memory, true, text.workers), devs),
     };

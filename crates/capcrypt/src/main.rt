@@ -10,7 +10,9 @@ ghost use Rattle.std.specs.Prelude.{◌≡◌, [], All, IfOk, length};
 ghost use Rattle.sym_engine.specs.Driver.{held_of};
 
 mod deal;
+mod dealing;
 mod ending;
+mod forwarding;
 mod line;
 mod place;
 mod ready;

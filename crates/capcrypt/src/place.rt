@@ -4,7 +4,7 @@ ghost use Rattle.crypto_model.specs.Counts.{Rose};
 ghost use Rattle.sha2.specs.Sha256.{sha256};
 ghost use Rattle.capture_io.specs.Capture.{Reading, IsReading};
 ghost use Rattle.capture_io.specs.Generated.{generated};
-ghost use Rattle.capcrypt.specs.Dealing.{dealing_of, workers_of};
+ghost use Rattle.capcrypt.specs.Dealing.{workers_of};
 ghost use Rattle.capcrypt.specs.Start.{Begins, CanStart, settings_of};
 ghost use Rattle.capcrypt.specs.Devices.{HaveStalledOut, devices_now};
 ghost use Rattle.capcrypt.specs.Place.{HasWorked, IsGenerated, OfHanded, capture_read};
@@ -37,10 +37,10 @@ fn work_generated<D: Device<Card>>(alloc: Global, task: &Task, made: Gen, devs: 
         (λ n. drop n result.devs.items ≡ drop n devs.items) (now devs.items) (now result.devs.items) }
     ensures count { length result.devs.items ≡ length devs.items }
     ensures few { result.outcome.devices ≤ length devs.items }
-    ensures others { let w = workers_of (dealing_of task.now.scheduler) in drop w result.devs.items ≡ drop w devs.items }
+    ensures others { let w = workers_of task.now.dealing in drop w result.devs.items ≡ drop w devs.items }
     ensures stalled { result.outcome.ending ≡ Ending.Stalled
         → let now = devices_now D.limit D.sessions D.held D.room D.stalls D.stats D.log
-        in HaveStalledOut (workers_of (dealing_of task.now.scheduler)) (now devs.items) (now result.devs.items) }
+        in HaveStalledOut (workers_of task.now.dealing) (now devs.items) (now result.devs.items) }
     ensures never { ¬ (result.outcome.ending ≡ Ending.ReadFault) × ¬ (result.outcome.ending ≡ Ending.WriteFault) }
     ensures late { IsLate result.outcome.ending }
 {
@@ -73,11 +73,11 @@ pub(crate) fn work<S: Source, K: Sink, D: Device<Card>>(
     ensures untouched { IsGenerated task.now.generated → (capture.new ≡ capture.old) × (out.new ≡ out.old) }
     ensures count { length result.devs.items ≡ length devs.items }
     ensures few { result.outcome.devices ≤ length devs.items }
-    ensures others { let w = workers_of (dealing_of task.now.scheduler) in drop w result.devs.items ≡ drop w devs.items }
+    ensures others { let w = workers_of task.now.dealing in drop w result.devs.items ≡ drop w devs.items }
     ensures ended { S.tells → result.outcome.ending ≡ Ending.Done → OfHanded task.now.generated (S.left capture.new ≡ []) }
     ensures stalled { result.outcome.ending ≡ Ending.Stalled
         → let now = devices_now D.limit D.sessions D.held D.room D.stalls D.stats D.log
-        in HaveStalledOut (workers_of (dealing_of task.now.scheduler)) (now devs.items) (now result.devs.items) }
+        in HaveStalledOut (workers_of task.now.dealing) (now devs.items) (now result.devs.items) }
     ensures read_later { S.faults capture.old ≤ S.faults capture.new }
     ensures read_cause { result.outcome.ending ≡ Ending.ReadFault → Rose (S.faults capture.old) (S.faults capture.new) }
     ensures write_later { K.faults out.old ≤ K.faults out.new }

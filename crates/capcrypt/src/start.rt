@@ -3,12 +3,14 @@ ghost use Rattle.std.specs.Prelude.{◌≡◌, ◌<◌, ◌≤◌, ◌^◌, ℕ,
 ghost use Rattle.crypto_model.specs.Counts.{Rose};
 ghost use Rattle.session_file.specs.Sound.{IsSound};
 ghost use Rattle.command_words.specs.Asked.{wanted};
-ghost use Rattle.capcrypt.specs.Dealing.{Dealing, dealing_of, workers_of};
+ghost use Rattle.capcrypt.specs.declared.dealing.Dealing.{Dealing};
+ghost use Rattle.capcrypt.specs.Dealing.{workers_of};
 ghost use Rattle.capcrypt.specs.Start.{Begins, CanStart, LeavesSessions, Stops, burst_asked, settings_of, start_by, start_with, started, stated_sessions, workers_asked};
 ghost use Rattle.session_file.specs.Plan.{plan_of};
 ghost use Rattle.capcrypt.specs.Place.{OfHanded, generated_in};
 ghost use Rattle.capcrypt.specs.Ran.{IsDecided};
 
+use crate::dealing::Dealing;
 use crate::ending::Ending;
 use capture_io::{Source, TextStop, read_text};
 use command_words::{Command, Gen, WordsRefused, command_of};
@@ -35,13 +37,12 @@ const STATED_SCHEDULER: SchedText = SchedText {
 
 const STATED_BURST: usize = 32;
 
-/// A plan, how many operations make a burst, the scheduler that deals them, and the capture that is generated. Without a
-/// scheduler the first device does all.
+/// A plan, how many operations make a burst, who deals them, and the capture that is generated.
 #[derive(Drop)]
 pub(crate) struct Task {
     pub(crate) plan: ReadyPlan,
     pub(crate) burst: usize,
-    pub(crate) scheduler: Option<SchedText>,
+    pub(crate) dealing: Dealing,
     pub(crate) generated: Option<Gen>,
 }
 
@@ -104,7 +105,7 @@ pub(crate) fn begin<T: Source>(
         → IfOk result (λ t. started (map string_bytes words.now) devices (T.left sessions.old) ≡ Begins (settings_of t)) }
     ensures burst { IfOk result (λ t. burst_asked (wanted (map string_bytes words.now) devices) ≡ Some t.burst) }
     ensures generated { IfOk result (λ t. t.generated ≡ generated_in (wanted (map string_bytes words.now) devices)) }
-    ensures workers { IfOk result (λ t. workers_asked (wanted (map string_bytes words.now) devices) ≡ workers_of (dealing_of t.scheduler)) }
+    ensures workers { IfOk result (λ t. workers_asked (wanted (map string_bytes words.now) devices) ≡ workers_of t.dealing) }
     ensures legal { 0 < devices → IfOk result (λ t. CanStart t devices) }
     ensures stops { OfHanded (generated_in (wanted (map string_bytes words.now) devices)) T.tells
         → IfErr result (λ e. IsDecided e → started (map string_bytes words.now) devices (T.left sessions.old) ≡ Stops e) }
@@ -120,7 +121,7 @@ pub(crate) fn begin<T: Source>(
             Ok(Task {
                 plan,
                 burst: 1,
-                scheduler: None,
+                dealing: Dealing::Alone,
                 generated: None,
             })
         }
@@ -130,7 +131,17 @@ pub(crate) fn begin<T: Source>(
             Ok(Task {
                 plan,
                 burst: crypt.burst,
-                scheduler: Some(crypt.scheduler),
+                dealing: Dealing::Scheduled(crypt.scheduler),
+                generated: None,
+            })
+        }
+        Ok(Command::Forward(forward)) => {
+            let plan = plan_in(alloc, sessions)?;
+            let plan = ReadyPlan::new(alloc, plan)?;
+            Ok(Task {
+                plan,
+                burst: STATED_BURST,
+                dealing: Dealing::Forwarded(forward.scheduler),
                 generated: None,
             })
         }
@@ -140,7 +151,7 @@ pub(crate) fn begin<T: Source>(
             Ok(Task {
                 plan,
                 burst: STATED_BURST,
-                scheduler: Some(STATED_SCHEDULER),
+                dealing: Dealing::Scheduled(STATED_SCHEDULER),
                 generated: Some(generated),
             })
         }

@@ -98,7 +98,8 @@ fn run_unreported<S: Source, T: Source, K: Sink, D: Device<Card>>(
 /// Does what the words behind the program's name ask for: reads the capture, makes an operation of each packet for
 /// which its plan has a session, sends the operations in bursts through the devices, writes the capture to `out` and a
 /// report to `report`. `crypt` has the plan of the session source, and deals the operations to as many devices as its
-/// scheduler text names workers, by the text's mode. `quick` has a plan of its own, uses the first device alone, and
+/// scheduler text names workers, by the text's mode. `forward` does the same through an event adapter, whose bursts are of at
+/// most 32. `quick` has a plan of its own, uses the first device alone, and
 /// leaves the source unread. `gen` reads a generated capture in place of the one that it is handed, by a plan and a scheduler of
 /// its own, and reports a digest of what it writes, which no sink gets.
 ///

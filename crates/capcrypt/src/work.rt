@@ -1,5 +1,5 @@
 //! A run whose plan is known.
-ghost use Rattle.std.specs.Prelude.{◌≡◌, ◌≤◌, ◌<◌, ◌⊎◌, true, List, [], ◌∷◌, length, drop, option_map, All, None};
+ghost use Rattle.std.specs.Prelude.{◌≡◌, ◌≤◌, ◌<◌, ◌⊎◌, true, List, [], length, drop, option_map, All};
 ghost use Rattle.crypto_model.specs.Counts.{Rose};
 ghost use Rattle.crypto_op.specs.declared.spec.Card.{Card};
 ghost use Rattle.dev_core.specs.Calls.{Call, Ran};
@@ -9,14 +9,17 @@ ghost use Rattle.packet_plan.specs.Asked.{sessions_of};
 ghost use Rattle.packet_flow.specs.Counts.{counts_of};
 ghost use Rattle.packet_flow.specs.Entries.{entries_from};
 ghost use Rattle.packet_flow.specs.Turns.{NeverIdle};
-ghost use Rattle.capcrypt.specs.Dealing.{dealing_of, workers_of};
+ghost use Rattle.capcrypt.specs.declared.dealing.Dealing.TheVariants.{Alone};
+ghost use Rattle.capcrypt.specs.Dealing.{workers_of};
 ghost use Rattle.capcrypt.specs.Start.{Begins, CanStart, settings_of};
 ghost use Rattle.capcrypt.specs.Written.{raised};
 ghost use Rattle.capcrypt.specs.Devices.{HasStalledOut, HaveStalledOut, devices_now};
 ghost use Rattle.capcrypt.specs.Ran.{HasAppended, IsDriven, IsLate, Job};
 
 use crate::deal::deal_packets;
+use crate::dealing::Dealing;
 use crate::ending::{Ending, Outcome, ending_of_flow, ending_of_stop};
+use crate::forwarding::forward_packets;
 use crate::ready::{set_up, table_of};
 use crate::start::Task;
 use capture_io::{Header, Sink, Source, read_header, write_header};
@@ -35,7 +38,7 @@ pub(crate) const WINDOW: usize = 1;
 // At most so many segments are kept, whatever the burst.
 const MAX_KEPT: usize = 1024;
 
-fn raise(header: &Header) -> Header
+pub(crate) fn raise(header: &Header) -> Header
     ensures { result ≡ raised header.now }
 {
     let snaplen = header.snaplen.max(SNAPLEN);
@@ -54,18 +57,18 @@ pub(crate) fn without_packets(ending: Ending, header: bool, devices: usize) -> O
     }
 }
 
-fn devices_of(task: &Task) -> usize
-    ensures { result ≡ workers_of (dealing_of task.now.scheduler) }
+pub(crate) fn devices_of(task: &Task) -> usize
+    ensures { result ≡ workers_of task.now.dealing }
 {
-    match &task.scheduler {
-        Some(text) => text.workers,
-        None => 1,
+    match &task.dealing {
+        Dealing::Alone => 1,
+        Dealing::Scheduled(text) | Dealing::Forwarded(text) => text.workers,
     }
 }
 
 // A store for a run with bursts of this size. It keeps the segments of a window and of two bursts, one that is formed and one
 // that is worked on.
-fn open_store(alloc: Global, burst: usize) -> Result<Topped, OutOfMemory>
+pub(crate) fn open_store(alloc: Global, burst: usize) -> Result<Topped, OutOfMemory>
     requires { burst ≤ 256 }
 {
     let kept = MAX_KEPT.min(WINDOW + 2 * burst);
@@ -94,7 +97,7 @@ fn write_packets<S: Source, K: Sink, D: Driver<Card>>(
         → (past : List Call) × Ran D.does dev.old past dev.new
         × IsDriven task.now.burst (entries_from task.now.plan 0 rs) result.ending past (D.stats dev.new).enqueued (D.log dev.old) (D.log dev.new) }
     ensures header { result.header ≡ true }
-    ensures devices { result.devices ≡ workers_of (dealing_of task.now.scheduler) }
+    ensures devices { result.devices ≡ workers_of task.now.dealing }
     ensures sessions { D.sessions dev.new ≡ D.sessions dev.old }
     ensures follows { D.follows dev.old dev.new }
     ensures ended { S.tells → result.ending ≡ Ending.Done → S.left capture.new ≡ [] }
@@ -129,7 +132,7 @@ fn write_packets<S: Source, K: Sink, D: Driver<Card>>(
 }
 
 // Flushes a sink behind its last write. A failure is the outcome's ending.
-fn flushed<K: Sink>(out: &mut K, outcome: Outcome) -> Outcome
+pub(crate) fn flushed<K: Sink>(out: &mut K, outcome: Outcome) -> Outcome
     ensures same { K.tells → K.written out.new ≡ K.written out.old }
     ensures outcome { (result ≡ outcome) ⊎ ((result ≡ record outcome { ending = Ending.WriteFault }) × Rose (K.faults out.old) (K.faults out.new)) }
     ensures later { K.faults out.old ≤ K.faults out.new }
@@ -166,7 +169,7 @@ pub(crate) fn send_packets<S: Source, K: Sink, D: Driver<Card>>(
         → (past : List Call) × Ran D.does dev.old past dev.new
         × IsDriven task.now.burst (entries_from task.now.plan 0 rs) result.ending past (D.stats dev.new).enqueued (D.log dev.old) (D.log dev.new) }
     ensures header { result.header ≡ true }
-    ensures devices { result.devices ≡ workers_of (dealing_of task.now.scheduler) }
+    ensures devices { result.devices ≡ workers_of task.now.dealing }
     ensures sessions { D.sessions dev.new ≡ D.sessions dev.old }
     ensures follows { D.follows dev.old dev.new }
     ensures ended { S.tells → result.ending ≡ Ending.Done → S.left capture.new ≡ [] }
@@ -191,7 +194,7 @@ fn work_alone<S: Source, K: Sink, D: Device<Card>>(
     out: &mut K,
     devs: Vec<D>,
 ) -> (Outcome, Vec<D>)
-    requires alone { task.now.scheduler ≡ None }
+    requires alone { task.now.dealing ≡ Alone }
     requires can { CanStart task.now (length devs.items) }
     requires idle { All (λ d. D.held d ≡ []) devs.items }
     ensures job { S.tells → K.tells → (rs : List Rec) (rest : Rest) → Records header.now.big first_place (S.left capture.old) rs rest
@@ -200,11 +203,11 @@ fn work_alone<S: Source, K: Sink, D: Device<Card>>(
         (λ n. drop n result.1.items ≡ drop n devs.items) (now devs.items) (now result.1.items) }
     ensures count { length result.1.items ≡ length devs.items }
     ensures few { result.0.devices ≤ length devs.items }
-    ensures others { let w = workers_of (dealing_of task.now.scheduler) in drop w result.1.items ≡ drop w devs.items }
+    ensures others { let w = workers_of task.now.dealing in drop w result.1.items ≡ drop w devs.items }
     ensures ended { S.tells → result.0.ending ≡ Ending.Done → S.left capture.new ≡ [] }
     ensures stalled { result.0.ending ≡ Ending.Stalled
         → let now = devices_now D.limit D.sessions D.held D.room D.stalls D.stats D.log
-        in HaveStalledOut (workers_of (dealing_of task.now.scheduler)) (now devs.items) (now result.1.items) }
+        in HaveStalledOut (workers_of task.now.dealing) (now devs.items) (now result.1.items) }
     ensures read_later { S.faults capture.old ≤ S.faults capture.new }
     ensures read_cause { result.0.ending ≡ Ending.ReadFault → Rose (S.faults capture.old) (S.faults capture.new) }
     ensures write_later { K.faults out.old ≤ K.faults out.new }
@@ -240,11 +243,11 @@ fn process_packets<S: Source, K: Sink, D: Device<Card>>(
         (λ n. drop n result.1.items ≡ drop n devs.items) (now devs.items) (now result.1.items) }
     ensures count { length result.1.items ≡ length devs.items }
     ensures few { result.0.devices ≤ length devs.items }
-    ensures others { let w = workers_of (dealing_of task.now.scheduler) in drop w result.1.items ≡ drop w devs.items }
+    ensures others { let w = workers_of task.now.dealing in drop w result.1.items ≡ drop w devs.items }
     ensures ended { S.tells → result.0.ending ≡ Ending.Done → S.left capture.new ≡ [] }
     ensures stalled { result.0.ending ≡ Ending.Stalled
         → let now = devices_now D.limit D.sessions D.held D.room D.stalls D.stats D.log
-        in HaveStalledOut (workers_of (dealing_of task.now.scheduler)) (now devs.items) (now result.1.items) }
+        in HaveStalledOut (workers_of task.now.dealing) (now devs.items) (now result.1.items) }
     ensures read_later { S.faults capture.old ≤ S.faults capture.new }
     ensures read_cause { result.0.ending ≡ Ending.ReadFault → Rose (S.faults capture.old) (S.faults capture.new) }
     ensures write_later { K.faults out.old ≤ K.faults out.new }
@@ -252,9 +255,10 @@ fn process_packets<S: Source, K: Sink, D: Device<Card>>(
     ensures write_steady { K.steady → ¬ (result.0.ending ≡ Ending.WriteFault) → K.faults out.new ≡ K.faults out.old }
     ensures late { IsLate result.0.ending }
 {
-    match &task.scheduler {
-        Some(text) => deal_packets(alloc, task, text, header, capture, out, devs),
-        None => work_alone(alloc, task, header, capture, out, devs),
+    match &task.dealing {
+        Dealing::Alone => work_alone(alloc, task, header, capture, out, devs),
+        Dealing::Scheduled(text) => deal_packets(alloc, task, text, header, capture, out, devs),
+        Dealing::Forwarded(text) => forward_packets(alloc, task, text, header, capture, out, devs),
     }
 }
 
@@ -274,11 +278,11 @@ pub(crate) fn process_capture<S: Source, K: Sink, D: Device<Card>>(
         (λ n. drop n result.1.items ≡ drop n devs.items) (now devs.items) (now result.1.items) }
     ensures count { length result.1.items ≡ length devs.items }
     ensures few { result.0.devices ≤ length devs.items }
-    ensures others { let w = workers_of (dealing_of task.now.scheduler) in drop w result.1.items ≡ drop w devs.items }
+    ensures others { let w = workers_of task.now.dealing in drop w result.1.items ≡ drop w devs.items }
     ensures ended { S.tells → result.0.ending ≡ Ending.Done → S.left capture.new ≡ [] }
     ensures stalled { result.0.ending ≡ Ending.Stalled
         → let now = devices_now D.limit D.sessions D.held D.room D.stalls D.stats D.log
-        in HaveStalledOut (workers_of (dealing_of task.now.scheduler)) (now devs.items) (now result.1.items) }
+        in HaveStalledOut (workers_of task.now.dealing) (now devs.items) (now result.1.items) }
     ensures read_later { S.faults capture.old ≤ S.faults capture.new }
     ensures read_cause { result.0.ending ≡ Ending.ReadFault → Rose (S.faults capture.old) (S.faults capture.new) }
     ensures write_later { K.faults out.old ≤ K.faults out.new }

@@ -4,7 +4,8 @@ use Rattle.std.specs.Char.{is_ascii_digit}
 use Rattle.std.specs.List.{list_all}
 use Rattle.std.specs.Str.Parse.{digits_value}
 use Rattle.command_words.specs.Quick.{key_of, salt_of}
-use Rattle.command_words.specs.Options.{Values, values_of}
+use Rattle.command_words.specs.Options.{Values, crypt_app, forward_app, values_of}
+pub use Rattle.command_words.specs.Fault.{Fault, NotLegal, BadText}
 use Rattle.sched_core.specs.Text.{sched_of}
 use Rattle.sched_core.specs.declared.mode.Mode.{Mode}
 use Rattle.sched_core.specs.declared.mode.Mode.TheVariants.{MultiCore}
@@ -13,12 +14,8 @@ use Rattle.sched_core.specs.declared.text.SchedText.{SchedText}
 pub data Wanted : Type 0 where
   AsksQuick : (key salt : List ℕ) → Wanted
   AsksCrypt : (scheduler : SchedText) (sessions : List ℕ) (burst : ℕ) → Wanted
+  AsksForward : (scheduler : SchedText) (sessions : List ℕ) → Wanted
   AsksGen : (packets number : ℕ) → Wanted
-
--- the words are not legal, or their scheduler text is not, from this place on
-pub data Fault : Type 0 where
-  NotLegal : Fault
-  BadText : (at : ℕ) → Fault
 
 -- ---- `quick KEY SALT`
 
@@ -64,6 +61,29 @@ abbrev pub gen_asked : List (List ℕ) → ℕ → Result Wanted Fault
 gen_asked (packets ∷ number ∷ []) devices = gen_with (packets_in packets) (seed_in number) devices
 gen_asked _ devices = Err NotLegal
 
+-- ---- what `crypt` and `forward` share
+
+-- these commands run on one thread
+abbrev pub is_on_one_thread : Mode → Bool
+is_on_one_thread MultiCore = false
+is_on_one_thread mode = true
+
+-- the last rules: the scheduler text, and then its mode, and that there is a device for each worker
+abbrev pub if_served : Result SchedText ℕ → ℕ → Result SchedText Fault
+if_served (Err at) devices = Err (BadText at)
+if_served (Ok text) devices = if is_on_one_thread text.mode && nat_le text.workers devices then Ok text else Err NotLegal
+
+abbrev pub scheduler_in : List ℕ → ℕ → Result SchedText Fault
+scheduler_in text devices = if_served (sched_of text) devices
+
+abbrev pub with_scheduler : Result SchedText Fault → (SchedText → Wanted) → Result Wanted Fault
+with_scheduler (Err fault) asks = Err fault
+with_scheduler (Ok text) asks = Ok (asks text)
+
+abbrev pub with_values : Result Values Fault → (Values → Result Wanted Fault) → Result Wanted Fault
+with_values (Err fault) asked = Err fault
+with_values (Ok values) asked = asked values
+
 -- ---- `crypt`
 
 -- N: 1 to 10 digits, from 1 to 256
@@ -74,24 +94,25 @@ abbrev pub burst_of : Option (List ℕ) → Option ℕ
 burst_of None = Some 32
 burst_of (Some text) = burst_in text
 
--- `crypt` runs on one thread
-abbrev pub is_on_one_thread : Mode → Bool
-is_on_one_thread MultiCore = false
-is_on_one_thread mode = true
-
--- the last rules: the scheduler text, and then its mode, and that there is a device for each worker
-abbrev pub with_scheduler : Result SchedText ℕ → List ℕ → ℕ → ℕ → Result Wanted Fault
-with_scheduler (Err at) sessions burst devices = Err (BadText at)
-with_scheduler (Ok text) sessions burst devices =
-    if is_on_one_thread text.mode && nat_le text.workers devices then Ok (AsksCrypt text sessions burst) else Err NotLegal
-
 abbrev pub with_burst : Option ℕ → Values → ℕ → Result Wanted Fault
 with_burst None values devices = Err NotLegal
-with_burst (Some burst) values devices = with_scheduler (sched_of values.vdev) values.sessions burst devices
+with_burst (Some burst) values devices = with_scheduler (scheduler_in values.vdev devices) (λ text. AsksCrypt text values.sessions burst)
 
-abbrev pub with_values : Option Values → ℕ → Result Wanted Fault
-with_values None devices = Err NotLegal
-with_values (Some values) devices = with_burst (burst_of values.burst) values devices
+abbrev pub crypt_with : Values → ℕ → Result Wanted Fault
+crypt_with values devices = with_burst (burst_of values.burst) values devices
+
+-- the words, of which the first is `crypt`
+abbrev pub crypt_asked : List (List ℕ) → ℕ → Result Wanted Fault
+crypt_asked words devices = with_values (values_of crypt_app words) (λ values. crypt_with values devices)
+
+-- ---- `forward`
+
+abbrev pub forward_with : Values → ℕ → Result Wanted Fault
+forward_with values devices = with_scheduler (scheduler_in values.vdev devices) (λ text. AsksForward text values.sessions)
+
+-- the words, of which the first is `forward`
+abbrev pub forward_asked : List (List ℕ) → ℕ → Result Wanted Fault
+forward_asked words devices = with_values (values_of forward_app words) (λ values. forward_with values devices)
 
 -- ---- all words
 
@@ -101,9 +122,11 @@ wanted [] devices = Err NotLegal
 wanted (word ∷ rest) devices =
     if bytes_eq word (codes "quick") then quick_asked rest
     else (if bytes_eq word (codes "gen") then gen_asked rest devices
-    else (if bytes_eq word (codes "crypt") then with_values (values_of (word ∷ rest)) devices else Err NotLegal))
+    else (if bytes_eq word (codes "crypt") then crypt_asked (word ∷ rest) devices
+    else (if bytes_eq word (codes "forward") then forward_asked (word ∷ rest) devices else Err NotLegal)))
 
 -- the file of the sessions, where legal words name one
 abbrev pub sessions_file : Result Wanted Fault → Option (List ℕ)
 sessions_file (Ok (AsksCrypt scheduler sessions burst)) = Some sessions
+sessions_file (Ok (AsksForward scheduler sessions)) = Some sessions
 sessions_file _ = None

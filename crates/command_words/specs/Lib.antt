@@ -1,4 +1,5 @@
 pub mod Quick
+pub mod Fault
 pub mod Options
 pub mod Asked
 pub mod Gives

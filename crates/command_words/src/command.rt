@@ -1,9 +1,10 @@
 //! What the words ask for.
 ghost use Rattle.std.specs.Prelude.{◌≡◌, IfOk, map, option_map, string_bytes};
 ghost use Rattle.command_words.specs.Asked.{wanted, sessions_file};
-ghost use Rattle.command_words.specs.Gives.{Gives, IsLegalIfCrypt};
+ghost use Rattle.command_words.specs.Gives.{Gives, IsLegalCommand};
 
 use crate::crypt::{Crypt, crypt_of};
+use crate::forward::{Forward, forward_of};
 use crate::generated::{Gen, gen_of};
 use crate::quick::{Quick, quick_of};
 use crate::refused::WordsRefused;
@@ -18,6 +19,7 @@ const MAX_DEVICES: usize = 8;
 pub enum Command<'a> {
     Quick(Quick),
     Crypt(Crypt<'a>),
+    Forward(Forward<'a>),
     Gen(Gen),
 }
 
@@ -29,7 +31,7 @@ pub fn command_of<'a>(
     devices: usize,
 ) -> Result<Command<'a>, WordsRefused>
     ensures value { Gives result (wanted (map string_bytes words.entry.now) devices) }
-    ensures legal { IfOk result IsLegalIfCrypt }
+    ensures legal { IfOk result IsLegalCommand }
 {
     let [word, rest @ ..] = words else {
         return Err(WordsRefused::Usage);
@@ -46,13 +48,15 @@ pub fn command_of<'a>(
             None => Err(WordsRefused::Usage),
         };
     }
-    if word.as_str() != "crypt" {
-        return Err(WordsRefused::Usage);
+    if word.as_str() == "crypt" {
+        let crypt = crypt_of(alloc, words, devices)?;
+        return Ok(Command::Crypt(crypt));
     }
-    match crypt_of(alloc, words, devices) {
-        Ok(crypt) => Ok(Command::Crypt(crypt)),
-        Err(refused) => Err(refused),
+    if word.as_str() == "forward" {
+        let forward = forward_of(alloc, words, devices)?;
+        return Ok(Command::Forward(forward));
     }
+    Err(WordsRefused::Usage)
 }
 
 /// The file of the sessions, where words that are legal for eight devices name one.
@@ -60,8 +64,8 @@ pub fn sessions_path(alloc: Global, words: &[String]) -> Result<Option<String>, 
     ensures { IfOk result (λ path. option_map string_bytes path ≡ sessions_file (wanted (map string_bytes words.now) 8)) }
 {
     match command_of(alloc, words, MAX_DEVICES) {
-        Ok(Command::Crypt(crypt)) => {
-            let path = String::from_str(alloc, crypt.sessions)?;
+        Ok(Command::Crypt(Crypt { sessions, .. }) | Command::Forward(Forward { sessions, .. })) => {
+            let path = String::from_str(alloc, sessions)?;
             Ok(Some(path))
         }
         Ok(Command::Quick(_) | Command::Gen(_)) => Ok(None),

@@ -1,13 +1,14 @@
 //! `crypt`: the rules on top of its options.
 ghost use Rattle.std.specs.Prelude.{◌≡◌, ◌≤◌, IfOk, IfSome, map, option_map, string_bytes};
-ghost use Rattle.command_words.specs.Options.{options_view, values_of};
-ghost use Rattle.command_words.specs.Asked.{burst_in, burst_of, is_on_one_thread, with_burst, with_values};
-ghost use Rattle.command_words.specs.Gives.{GivesCrypt, IsLegal};
+ghost use Rattle.command_words.specs.Options.{options_view};
+ghost use Rattle.command_words.specs.Asked.{burst_in, burst_of, crypt_asked, crypt_with};
+ghost use Rattle.command_words.specs.Gives.{GivesAs, IsLegal, crypt_view};
 
 use crate::numeral::number_in;
-use crate::options::{Options, OptionsRefused, options_of};
+use crate::options::{Options, options_of};
 use crate::refused::WordsRefused;
-use sched_core::{Mode, SchedText};
+use crate::scheduler::scheduler_in;
+use sched_core::SchedText;
 use std::alloc::Global;
 
 const USUAL_BURST: usize = 32;
@@ -40,27 +41,14 @@ fn burst_of(text: Option<&str>) -> Option<usize>
     }
 }
 
-fn is_on_one_thread(mode: Mode) -> bool
-    ensures { result ≡ is_on_one_thread mode }
-{
-    !matches!(mode, Mode::MultiCore)
-}
-
 fn crypt_with<'a>(options: &Options<'a>, devices: usize) -> Result<Crypt<'a>, WordsRefused>
-    ensures value { let values = options_view options.now
-        in GivesCrypt result (with_burst (burst_of values.burst) values devices) }
+    ensures value { GivesAs crypt_view result (crypt_with (options_view options.now) devices) }
     ensures legal { IfOk result IsLegal }
 {
     let Some(burst) = burst_of(options.burst) else {
         return Err(WordsRefused::Usage);
     };
-    let scheduler = match SchedText::parse(options.vdev) {
-        Ok(scheduler) => scheduler,
-        Err(bad) => return Err(WordsRefused::Vdev { at: bad.at }),
-    };
-    if !is_on_one_thread(scheduler.mode) || devices < scheduler.workers {
-        return Err(WordsRefused::Usage);
-    }
+    let scheduler = scheduler_in(options.vdev, devices)?;
     Ok(Crypt {
         scheduler,
         sessions: options.sessions,
@@ -74,12 +62,9 @@ pub(crate) fn crypt_of<'a>(
     words: &'a [String],
     devices: usize,
 ) -> Result<Crypt<'a>, WordsRefused>
-    ensures value { GivesCrypt result (with_values (values_of (map string_bytes words.entry.now)) devices) }
+    ensures value { GivesAs crypt_view result (crypt_asked (map string_bytes words.entry.now) devices) }
     ensures legal { IfOk result IsLegal }
 {
-    match options_of(alloc, words) {
-        Ok(options) => crypt_with(&options, devices),
-        Err(OptionsRefused::Usage) => Err(WordsRefused::Usage),
-        Err(OptionsRefused::OutOfMemory) => Err(WordsRefused::OutOfMemory),
-    }
+    let options = options_of(alloc, "crypt", true, words)?;
+    crypt_with(&options, devices)
 }

@@ -30,7 +30,7 @@ fn crypt_of(
 ) -> Result<Option<(&str, usize)>, WordsRefused> {
     match command_of(alloc, words, devices) {
         Ok(Command::Crypt(crypt)) => Ok(Some((crypt.sessions, crypt.burst))),
-        Ok(Command::Quick(_) | Command::Gen(_)) => Ok(None),
+        Ok(Command::Quick(_) | Command::Forward(_) | Command::Gen(_)) => Ok(None),
         Err(refused) => Err(refused),
     }
 }
@@ -192,6 +192,96 @@ fn further_words_are_refused(rt: HostRuntime) -> Result<(), Fail> {
     Ok(())
 }
 
+// Each case is words and the number of devices, and the file that they ask for, or why they are refused.
+#[test]
+fn the_words_of_forward_are_read(rt: HostRuntime) -> Result<(), Fail> {
+    let alloc = rt.alloc();
+    for (line, devices, said) in [
+        (
+            "forward --vdev mode=round-robin,worker=plain --sessions f",
+            1,
+            Ok("f"),
+        ),
+        (
+            "forward --sessions a/b --vdev mode=round-robin,worker=plain",
+            1,
+            Ok("a/b"),
+        ),
+        (
+            "forward --sessions= --vdev=mode=fail-over,worker=plain,worker=plain",
+            2,
+            Ok(""),
+        ),
+        ("forward", 8, Err(WordsRefused::Usage)),
+        ("forward --sessions f", 8, Err(WordsRefused::Usage)),
+        (
+            "forward --vdev mode=round-robin,worker=plain",
+            8,
+            Err(WordsRefused::Usage),
+        ),
+        (
+            "forward --vdev mode=round-robin,worker=plain --sessions f --sessions f",
+            8,
+            Err(WordsRefused::Usage),
+        ),
+        (
+            "forward --vdev= --vdev= --sessions f",
+            8,
+            Err(WordsRefused::Usage),
+        ),
+        (
+            "forward --vdev mode=round-robin,worker=plain --sessions f --burst 32",
+            8,
+            Err(WordsRefused::Usage),
+        ),
+        (
+            "forward --burst=32 --vdev= --sessions f",
+            8,
+            Err(WordsRefused::Usage),
+        ),
+        (
+            "forward --vdev mode=round-robin,worker=plain --sessions f stray",
+            8,
+            Err(WordsRefused::Usage),
+        ),
+        ("forward --help", 8, Err(WordsRefused::Usage)),
+        (
+            "Forward --vdev mode=round-robin,worker=plain --sessions f",
+            8,
+            Err(WordsRefused::Usage),
+        ),
+        (
+            "forward --vdev mode=multi-core,worker --sessions f",
+            8,
+            Err(WordsRefused::Vdev { at: 16 }),
+        ),
+        (
+            "forward --vdev= --sessions f",
+            0,
+            Err(WordsRefused::Vdev { at: 0 }),
+        ),
+        (
+            "forward --vdev mode=multi-core,worker=plain --sessions f",
+            8,
+            Err(WordsRefused::Usage),
+        ),
+        (
+            "forward --vdev mode=fail-over,worker=plain,worker=plain --sessions f",
+            1,
+            Err(WordsRefused::Usage),
+        ),
+    ] {
+        let words = words_of(alloc, line)?;
+        let found = match command_of(alloc, &words, devices) {
+            Ok(Command::Forward(forward)) => Ok(forward.sessions),
+            Ok(_) => return Err("another command".into()),
+            Err(refused) => Err(refused),
+        };
+        assert_eq!(rt; found, said, "{line}, {devices} devices");
+    }
+    Ok(())
+}
+
 #[test]
 fn a_key_has_digits_of_either_case(rt: HostRuntime) -> Result<(), Fail> {
     let alloc = rt.alloc();
@@ -303,6 +393,22 @@ fn the_file_is_found_before_the_words_are_used(rt: HostRuntime) -> Result<(), Fa
         (
             "crypt --vdev mode=round-robin,worker=plain --sessions=",
             Some(""),
+        ),
+        (
+            "forward --vdev mode=round-robin,worker=plain --sessions f",
+            Some("f"),
+        ),
+        (
+            "forward --sessions= --vdev mode=round-robin,worker=plain",
+            Some(""),
+        ),
+        (
+            "forward --vdev mode=multi-core,worker=plain --sessions f",
+            None,
+        ),
+        (
+            "forward --vdev mode=round-robin,worker=plain --sessions f --burst 1",
+            None,
         ),
         ("crypt --vdev worker=plain --sessions f", None),
         ("crypt --sessions f", None),

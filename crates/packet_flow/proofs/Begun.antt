@@ -1,5 +1,5 @@
 -- What reading on and beginning a record do to a capture on its way.
-use Rattle.std.proofs.Common.{◌≡◌, ◌<◌, ◌≤◌, ◌+◌, ◌^◌, ◌++◌, ◌∷◌, ℕ, Bool, List, [], length, map, refl, ap, sym, subst, ◌∙◌, arith, inl, inr, append_assoc, length-append}
+use Rattle.std.proofs.Common.{◌≡◌, ◌<◌, ◌+◌, ◌^◌, ◌++◌, ◌∷◌, ℕ, Bool, List, [], length, map, refl, ap, sym, subst, ◌∙◌, arith, inl, inr, append_assoc, length-append}
 use Rattle.std.specs.Prelude.{Option, Some, None, ◌⊎◌, Result, Err, IfErr}
 use Rattle.std.specs.List.{All}
 use Rattle.std.proofs.lemmas.List.{map-append, length-map}
@@ -14,7 +14,6 @@ use Rattle.dev_core.specs.Offers.{Flows}
 use Rattle.capture_io.specs.Capture.{Rec, view}
 use Rattle.capture_io.specs.declared.header.Place.{Place}
 use Rattle.capture_io.specs.declared.header.ReadStop.{ReadStop}
-use Rattle.capture_io.specs.declared.header.ReadStop.TheVariants.{Fault, BadCapture, OutOfMemory}
 use Rattle.session_file.specs.declared.plan.Plan.{Plan}
 use Rattle.packet_plan.specs.Answered.{Answered, answered}
 use Rattle.packet_flow.specs.declared.counts.Counts.{Counts}
@@ -25,7 +24,7 @@ use Rattle.packet_flow.specs.Seats.{AllIn, Seat, WaitsAtFront}
 use Rattle.packet_flow.specs.declared.window.Packet.{Packet}
 use Rattle.packet_flow.specs.Counts.{counts_of}
 use Rattle.packet_flow.specs.Entries.{entries_from}
-use Rattle.packet_flow.specs.Filling.{AddsSlot, left_to_begin, open_end}
+use Rattle.packet_flow.specs.Filling.{AddsSlot}
 use Rattle.packet_flow.specs.Numbered.{Numbered, answers_to, numbered}
 use Rattle.packet_flow.specs.Packet.{numbered_view, put_back}
 use Rattle.packet_flow.specs.Passage.{Before, Outside, EndsAs, IsEarly, IsUnderway}

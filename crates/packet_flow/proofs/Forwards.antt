@@ -1,7 +1,7 @@
 -- What feeding a port and a run of the adapter do to a capture on its way.
-use Rattle.std.proofs.Common.{◌≡◌, ◌==◌, ◌<◌, ◌≤◌, ◌+◌, ◌-◌, ◌*◌, ◌^◌, ◌++◌, ◌⊎◌, inl, inr, ℕ, Bool, zero, suc, List, [], ◌∷◌, length, map, drop, count_by, refl, ap, sym, subst, ◌∙◌, arith, append_assoc, length-append, length-drop, option_map}
+use Rattle.std.proofs.Common.{◌≡◌, ◌==◌, ◌<◌, ◌≤◌, ◌+◌, ◌-◌, ◌*◌, ◌^◌, ◌++◌, ◌⊎◌, inl, inr, ℕ, List, [], ◌∷◌, length, map, drop, count_by, refl, ap, sym, subst, ◌∙◌, arith, length-append, length-drop, option_map}
 use Rattle.std.specs.Int.{from_bool}
-use Rattle.std.specs.Prelude.{Option, None, Some}
+use Rattle.std.specs.Prelude.{None, Some}
 use Rattle.std.specs.List.{All}
 use Rattle.std.proofs.lemmas.List.{append-nil, length-map, nil_from_length}
 use Rattle.std.proofs.lemmas.List.Elements.{All-nil}
@@ -38,7 +38,7 @@ use Rattle.packet_flow.specs.Counts.{counts_of}
 use Rattle.packet_flow.specs.Passage.{Before, EndsAs, IsFilled, IsUnbegun, IsUnderway, Outside}
 use Rattle.packet_flow.specs.Routes.{Carries, HasMoved, IsForFirst, IsNewRoute, ahead, ahead_in, back_in, entry_from, inbox_of, on_way, steps, steps_in}
 use Rattle.packet_flow.specs.Seats.{AllIn, Seat, WaitsAtFront}
-use Rattle.packet_flow.specs.Slots.{SeatsSay, StandFor, open_numbers}
+use Rattle.packet_flow.specs.Slots.{StandFor, open_numbers}
 use Rattle.packet_flow.specs.Turns.{NeverIdle, OnlyAsked, with_offer}
 use Rattle.packet_flow.specs.Writing.{Appends, CutsNext, HasWritten}
 use Rattle.packet_flow.proofs.Answers.{counts_first, counts_now, cut_now, split_now, within, writes_now}

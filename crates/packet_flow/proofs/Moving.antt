@@ -1,6 +1,6 @@
 -- What reading does to a window, and to a capture on its way.
-use Rattle.std.proofs.Common.{◌≡◌, ◌<◌, ◌++◌, ◌∷◌, ℕ, Bool, List, [], length, refl, ap, sym, subst, ◌∙◌, inr}
-use Rattle.std.specs.Prelude.{Option, Some, None, ◌⊎◌, Result, Ok, Err, IfOk}
+use Rattle.std.proofs.Common.{◌≡◌, ◌<◌, ◌++◌, ◌∷◌, ℕ, Bool, List, [], length, ap, sym, subst, ◌∙◌, inr}
+use Rattle.std.specs.Prelude.{Option, Some, None, ◌⊎◌, Result, IfOk}
 use Rattle.std.proofs.lemmas.List.{append-nil}
 use Rattle.capture_io.specs.Capture.{Rec}
 use Rattle.capture_io.specs.declared.header.ReadStop.{ReadStop}

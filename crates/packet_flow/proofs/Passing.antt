@@ -1,5 +1,5 @@
 -- A packet that passes is written at once, where none is in a slot.
-use Rattle.std.proofs.Common.{◌≡◌, ◌+◌, ◌==◌, ◌++◌, ◌∷◌, ℕ, suc, Bool, true, false, List, [], length, map, refl, ap, sym, subst, ◌∙◌, arith}
+use Rattle.std.proofs.Common.{◌≡◌, ◌+◌, ◌==◌, ◌++◌, ◌∷◌, ℕ, Bool, true, false, List, [], length, map, refl, ap, sym, subst, ◌∙◌, arith}
 use Rattle.std.specs.Prelude.{None}
 use Rattle.std.specs.List.{flat_map}
 use Rattle.std.proofs.lemmas.Bool.Decides.{nat_tests}
@@ -7,8 +7,7 @@ use Rattle.std.proofs.lemmas.List.{append-nil}
 use Rattle.std.proofs.lemmas.List.Elements.{All-nil}
 use Rattle.crypto_op.specs.declared.spec.Card.{Card}
 use Rattle.crypto_op.specs.declared.op.Op.{Op}
-use Rattle.crypto_op.specs.Burst.{Burst}
-use Rattle.crypto_op.specs.Op.{Entry, entry_of}
+use Rattle.crypto_op.specs.Op.{entry_of}
 use Rattle.capture_io.specs.Capture.{record_bytes, view}
 use Rattle.capture_io.specs.Pieces.{AppendsPart}
 use Rattle.session_file.specs.declared.plan.Plan.{Plan}

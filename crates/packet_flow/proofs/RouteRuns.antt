@@ -1,10 +1,10 @@
 -- What a run of an adapter over one device does.
-use Rattle.std.proofs.Common.{◌≡◌, ◌==◌, ◌+◌, ◌-◌, ◌*◌, ◌<◌, ◌≤◌, ◌++◌, ◌⊎◌, min, ℕ, Bool, true, false, zero, suc, List, [], ◌∷◌, length, map, take, drop, cond, inl, inr, refl, ap, sym, subst, ◌∙◌, arith, append_assoc, length-append, length-take, length-drop, take-append-drop, option_map}
+use Rattle.std.proofs.Common.{◌≡◌, ◌==◌, ◌+◌, ◌-◌, ◌*◌, ◌<◌, ◌≤◌, ◌++◌, min, ℕ, Bool, true, false, zero, suc, List, [], ◌∷◌, length, map, take, drop, refl, ap, sym, subst, ◌∙◌, arith, append_assoc, length-append, length-take, length-drop, take-append-drop, option_map}
 use Rattle.std.specs.Int.{from_bool}
-use Rattle.std.specs.Prelude.{Option, None, Some, IsPermutation, not}
+use Rattle.std.specs.Prelude.{Some, IsPermutation, not}
 use Rattle.std.specs.Option.{ForSome}
 use Rattle.std.specs.List.{All, filter}
-use Rattle.std.proofs.lemmas.List.{append-nil, length-map, map-append, nil_from_length, take_all}
+use Rattle.std.proofs.lemmas.List.{append-nil, length-map, map-append, nil_from_length}
 use Rattle.std.proofs.lemmas.List.Elements.{All-append, All-drop, All-head, All-map, All-tail, All-take}
 use Rattle.std.proofs.lemmas.List.Sorted.{IsPermutation-append_left, IsPermutation-map, length_permutation}
 use Rattle.crypto_model.specs.Counts.{capped, Rose}
@@ -24,7 +24,7 @@ use Rattle.event_adapter.specs.declared.moved.Moved.{Moved}
 use Rattle.event_adapter.specs.declared.moved.AdapterMode.TheVariants.{Forward}
 use Rattle.event_adapter.specs.declared.port.EventPort.{Ghosts as PortGhosts}
 use Rattle.event_adapter.specs.declared.queue_pair.QueuePair.{QueuePair}
-use Rattle.event_adapter.specs.Inside.{bag_of, ids, inside, is_known, least_room, strangers}
+use Rattle.event_adapter.specs.Inside.{bag_of, inside, is_known, least_room, strangers}
 use Rattle.event_adapter.specs.Port.{told_room}
 use Rattle.event_adapter.specs.Adapter.{mode_of, moved_of, out_of, pairs_of}
 use Rattle.event_adapter.specs.declared.adapter.Adapter.{Adapter}

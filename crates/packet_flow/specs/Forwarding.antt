@@ -26,8 +26,8 @@ beyond left written way put past = record { left = left; written = written; held
 
 -- Between two turns: all operations that were made were put into the port, in bursts of 32, and those that the device did not
 -- accept are ahead of it.
-pub record IsForwarding {D : Type 0} (driver : Ghosts D Card) (plan : Plan) (b : Before) (s_tells k_tells : Type 0) (first : D) (stalled : ℕ) (p : Passage) (r : Route D)
-    (left written : List ℕ) : Type 0 where
+pub record IsForwarding {D : Type 0} (driver : Ghosts D Card) (plan : Plan) (b : Before) (s_tells k_tells : Type 0)
+    (first : D) (stalled : ℕ) (p : Passage) (r : Route D) (left written : List ℕ) : Type 0 where
   pub carries : Carries driver (sessions_of plan) first stalled r
   pub past : List Call
   pub at : IsAt past p.burst.ops
@@ -44,8 +44,8 @@ ForwardsAs plan b s_tells k_tells end counts written accepted = s_tells → k_te
     → (put : List LogEntry) × Flowed plan b.big rs rest end counts b.base written put × (accepted ≤ length put) × (EndsWhole end → accepted ≡ length put)
 
 -- It is over, and the device went on from the first to what it is now.
-pub record IsOver {D : Type 0} (driver : Ghosts D Card) (plan : Plan) (b : Before) (s_tells k_tells : Type 0) (first : D) (stalled : ℕ) (end : FlowEnd) (counts : Counts) (r : Route D)
-    (written : List ℕ) : Type 0 where
+pub record IsOver {D : Type 0} (driver : Ghosts D Card) (plan : Plan) (b : Before) (s_tells k_tells : Type 0)
+    (first : D) (stalled : ℕ) (end : FlowEnd) (counts : Counts) (r : Route D) (written : List ℕ) : Type 0 where
   pub carries : Carries driver (sessions_of plan) first stalled r
   pub ends : ForwardsAs plan b s_tells k_tells end counts written (driver.stats carries.serves.pair.dev).enqueued
   pub patience : end ≡ FlowEnd.Stalled → PATIENCE * (1 + (driver.stats carries.serves.pair.dev).enqueued) ≤ stalled

@@ -97,7 +97,8 @@ pub record IsNewRoute {D : Type 0} (driver : Ghosts D Card) (dev : D) (r : Route
   pub none_submitted : (moved_of r.adapter).submitted ≡ 0
 
 -- A run of the adapter moved so much in its steps, or its device stalled. It accepted some of the operations.
-pub record HasMoved {D : Type 0} (driver : Ghosts D Card) (sessions : List (List Transform)) (first : D) (stalled : ℕ) (old new : Route D) (moved : ℕ) : Type 0 where
+pub record HasMoved {D : Type 0} (driver : Ghosts D Card) (sessions : List (List Transform)) (first : D) (stalled : ℕ)
+    (old new : Route D) (moved : ℕ) : Type 0 where
   pub carries : Carries driver sessions first (stalled + from_bool (moved == 0)) new
   pub falls : moved + steps driver new ≡ steps driver old
   pub accepted : ℕ
@@ -105,7 +106,8 @@ pub record HasMoved {D : Type 0} (driver : Ghosts D Card) (sessions : List (List
   pub counts : (moved_of new.adapter).submitted ≡ capped ((moved_of old.adapter).submitted + accepted)
 
 -- And what was on its way came back as answers, or is still on its way.
-pub record HasRun {D : Type 0} (driver : Ghosts D Card) (sessions : List (List Transform)) (first : D) (stalled : ℕ) (old new : Route D) (moved : ℕ) : Type 0 where
+pub record HasRun {D : Type 0} (driver : Ghosts D Card) (sessions : List (List Transform)) (first : D) (stalled : ℕ)
+    (old new : Route D) (moved : ℕ) : Type 0 where
   pub moves : HasMoved driver sessions first stalled old new moved
   pub answers : All (IsAnswer kind.Forward 0 sessions) (back_in new)
   pub same : IsPermutation (on_way driver old) (map entry_in (back_in new) ++ on_way driver new)

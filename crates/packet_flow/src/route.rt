@@ -1,5 +1,5 @@
 //! A device behind an event adapter, and the port that leads there.
-ghost use Rattle.std.specs.Prelude.{◌≡◌, ◌==◌, ◌+◌, ◌<◌, ◌≤◌, [], ◌++◌, List, ℕ, length, map, IfErr, IfOk};
+ghost use Rattle.std.specs.Prelude.{◌≡◌, ◌+◌, ◌<◌, ◌≤◌, [], ◌++◌, List, ℕ, length, map, IfErr, IfOk};
 ghost use Rattle.std.specs.List.{All};
 ghost use Rattle.crypto_model.specs.Process.{Transform};
 ghost use Rattle.crypto_op.specs.declared.spec.Card.{Card};

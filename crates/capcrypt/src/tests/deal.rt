@@ -1,4 +1,4 @@
-//! `crypt` over several devices.
+//! `crypt` and `forward` over several devices.
 ghost use Rattle.std.specs.Prelude.{◌≡◌, ◌≤◌, ◌<◌, [], length, IfOk, All};
 ghost use Rattle.sym_engine.specs.Driver.{held_of};
 ghost use Rattle.dev_core.specs.Stall.{inner_of};
@@ -16,6 +16,8 @@ use std::test::Fail;
 use sym_engine::PlainDriver;
 
 const TWO: &str = "mode=round-robin,worker=plain,worker=plain";
+
+const FORWARD: [&str; 5] = ["forward", "--vdev", TWO, "--sessions", "f"];
 
 fn words<'a>(vdev: &'a str, burst: &'a str) -> [&'a str; 7] {
     ["crypt", "--vdev", vdev, "--sessions", "f", "--burst", burst]
@@ -89,6 +91,50 @@ fn two_workers_take_what_they_can(rt: HostRuntime) -> Result<(), Fail> {
         )?;
         let (a, b, _stalls) = taken(&run)?;
         assert_eq!(rt; (run.status, a, b), (status, operations, others));
+    }
+    Ok(())
+}
+
+// Device 0 takes one operation of its first burst. `crypt` offers the 31 that are left to device 1, where an adapter fills its
+// in buffer up again before it offers. Both write the same capture.
+#[test]
+fn an_adapter_fills_up_before_it_offers_again(rt: HostRuntime) -> Result<(), Fail> {
+    let alloc = rt.alloc();
+    let mut written: Vec<u8> = Vec::new(alloc);
+    for (words, operations, others) in [
+        (words(TWO, "32").as_slice(), 33, 31),
+        (FORWARD.as_slice(), 32, 32),
+    ] {
+        let listed = Limits::Listed(LimitList::copy(alloc, &[1])?);
+        let devs = stalling(
+            alloc,
+            (listed, Limits::Never),
+            (Limits::Never, Limits::Never),
+        )?;
+        let capture = packets(alloc, 64)?;
+        let run = run_in_memory(alloc, words, SEALS, capture, 1000, NOTHING, devs)?;
+        let (a, b, stalls) = taken(&run)?;
+        assert_eq!(rt; (run.status, a, b, stalls), (0, operations, others, 1));
+        if written.is_empty() {
+            written.extend_from_slice(run.out.bytes())?;
+        }
+        assert_eq!(rt; run.out.bytes(), written.as_slice());
+    }
+    Ok(())
+}
+
+// What a stalled adapter's devices hold comes back in them.
+#[test]
+fn a_stalled_adapter_gives_its_devices_back(rt: HostRuntime) -> Result<(), Fail> {
+    let alloc = rt.alloc();
+    let keeps = || (Limits::Never, Limits::Always(0));
+    let devs = stalling(alloc, keeps(), keeps())?;
+    let capture = packets(alloc, 64)?;
+    let run = run_in_memory(alloc, &FORWARD, SEALS, capture, 1000, NOTHING, devs)?;
+    let (a, b, _stalls) = taken(&run)?;
+    assert_eq!(rt; (run.status, a, b), (7, 32, 32));
+    for dev in run.devs.iter() {
+        assert_eq!(rt; Driver::<Card>::held(dev), 32);
     }
     Ok(())
 }

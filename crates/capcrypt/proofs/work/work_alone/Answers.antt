@@ -2,7 +2,9 @@ use Rattle.std.proofs.Common.{◌≡◌, ◌<◌, List, length, map, set, drop, 
 use Rattle.std.proofs.lemmas.List.{get_or-set_same}
 use Rattle.capture_io.specs.Capture.{Holds}
 use Rattle.packet_flow.specs.Entries.{entries_from}
-use Rattle.capcrypt.specs.Dealing.{Alone, Dealing, dealing_of, workers_of}
+use Rattle.capcrypt.specs.declared.dealing.Dealing.{Dealing}
+use Rattle.capcrypt.specs.declared.dealing.Dealing.TheVariants.{Alone}
+use Rattle.capcrypt.specs.Dealing.{workers_of}
 use Rattle.capcrypt.specs.Devices.{HasStalledOut, HaveStalledOut, device_now}
 use Rattle.capcrypt.specs.Ran.{IsDriven, Job}
 use Rattle.capcrypt.specs.Served.{WasSetUp}
@@ -15,7 +17,7 @@ pub returns-in_default-clause-job : goal.returns-in_default-clause-job
 returns-in_default-clause-job g c s_told k_told rs rest reads =
     let task = c.args.task.now in
     let old = g.K.Sink.written c.args.out.now in
-    wanting_by task.plan task.burst (dealing_of task.scheduler) Alone (ap dealing_of c.requires.alone) c.args.header.now rs rest c.without_packets.result old old _ _ _
+    wanting_by task.plan task.burst task.dealing Alone c.requires.alone c.args.header.now rs rest c.without_packets.result old old _ _ _
     0 (omega arith) c.without_packets.ensures refl (λ k lt. absurd (omega (arith, lt))) refl
 
 pub returns-in_default-set_up-clause-job : goal.returns-in_default-set_up-clause-job
@@ -25,7 +27,7 @@ returns-in_default-set_up-clause-job g c s_told k_told rs rest reads =
     let devs = c.args.devs.items in
     let old = g.K.Sink.written c.args.out.now in
     let o = c.without_packets-in_default-set_up.result in
-    let job = wanting_by task.plan task.burst (dealing_of task.scheduler) Alone (ap dealing_of c.requires.alone) c.args.header.now rs rest o old old
+    let job = wanting_by task.plan task.burst task.dealing Alone c.requires.alone c.args.header.now rs rest o old old
     (λ n. drop n devs ≡ drop n devs) (map f devs) (map f devs) 0 (omega arith) c.without_packets-in_default-set_up.ensures refl (λ k lt. absurd (omega (arith, lt))) refl in
     let same = ap (λ e. set devs 0 e) c.in_default-set_up.ensures.unused ∙ set_first devs c.index_mut.result.now c.index_mut.ensures.value in
     subst (λ (ds : List _). Job (Begins (settings_of task)) (Holds c.args.header.now rs rest) o old old (λ n. drop n ds ≡ drop n devs) (map f devs) (map f ds)) (sym same) job
@@ -62,7 +64,7 @@ returns-clause-job g c s_told k_told rs rest reads =
     let depth = g.met.D.Device.keeps_depth again d sent.follows ∙ ap g.D.Device.limit same ∙ made.served.depth in
     let sessions = sent.sessions ∙ ap g.D.Driver.sessions same ∙ made.served.sessions in
     let back = set (set devs 0 mid) 0 d in
-    served_by task.plan task.burst (dealing_of task.scheduler) Alone (ap dealing_of c.requires.alone) c.args.header.now rs rest c.send_packets-outcome.result old new
+    served_by task.plan task.burst task.dealing Alone c.requires.alone c.args.header.now rs rest c.send_packets-outcome.result old new
     (λ n. drop n back ≡ drop n devs) (map f devs) (map f back) (sent.wrote s_told k_told rs rest reads) sent.header sent.devices
     (alone_served f task.plan task.burst ops e driven.0 x mid d devs there drv ready depth sessions) (λ k. alone_whole f task.plan task.burst ops e driven.0 x mid d devs there drv k)
 
@@ -78,5 +80,5 @@ returns-clause-stalled g c ending =
     let made = c.in-Ok-set_up.ensures.ready c.args.task.now.plan c.in-Ok.ensures in
     let stalls = made.stalls ∙ ap g.D.Driver.stalls c.index_mut.ensures.value in
     let out = subst (λ y. HasStalledOut (f y).stalls (f d).enqueued (f d).stalls) same (c.send_packets-outcome.ensures.stalled ending) in
-    subst (λ (y : Dealing). HaveStalledOut (workers_of y) (map f devs) (map f (set (set devs 0 mid) 0 d))) (sym (ap dealing_of c.requires.alone))
+    subst (λ (y : Dealing). HaveStalledOut (workers_of y) (map f devs) (map f (set (set devs 0 mid) 0 d))) (sym c.requires.alone)
     (alone_stalled f c.index_mut.result.now mid d devs there stalls out)

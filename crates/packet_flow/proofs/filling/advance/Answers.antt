@@ -1,4 +1,4 @@
-use Rattle.std.proofs.Common.{◌≡◌, ◌+◌, ℕ, Bool, List, true, ap, sym, subst, refl, ◌∙◌, arith}
+use Rattle.std.proofs.Common.{◌≡◌, ◌+◌, Bool, ap, sym, subst, refl, ◌∙◌, arith}
 use Rattle.std.specs.Prelude.{Option, Err, IfSome}
 use Rattle.std.proofs.lemmas.Result.{err_from_is_err_and}
 use Rattle.capture_io.specs.Limits.{IsSmall}
@@ -6,11 +6,11 @@ use Rattle.packet_flow.specs.declared.flow.FlowEnd.TheVariants.{WriteFault, OutO
 use Rattle.packet_flow.specs.declared.passage.Passage.{Passage}
 use Rattle.packet_flow.specs.declared.window.Packet.{Packet}
 use Rattle.packet_flow.specs.Packet.{put_back}
-use Rattle.packet_flow.specs.Passage.{IsUnderway, Outside}
+use Rattle.packet_flow.specs.Passage.{Outside}
 use Rattle.packet_flow.specs.Seats.{AllIn}
 use Rattle.packet_flow.specs.Window.{IsInRange}
 use Rattle.packet_flow.specs.Writing.{Appends, CutsNext, HasWritten}
-use Rattle.packet_flow.proofs.Begun.{added_in, begun_and_cut, begun_and_written, ended_early, entries, few_answers, few_made, few_now, if_err_is, in_order, moved_on, said_by, stand, waiting}
+use Rattle.packet_flow.proofs.Begun.{added_in, begun_and_cut, begun_and_written, ended_early, entries, few_answers, few_made, few_now, if_err_is, moved_on, said_by, stand, waiting}
 use Rattle.packet_flow.proofs.Moving.{taken_up}
 use Rattle.packet_flow.proofs.Passing.{none_in_slots, passed_and_cut, passed_and_written}
 use Rattle.packet_flow.proofs.filling.advance.Goals as goal

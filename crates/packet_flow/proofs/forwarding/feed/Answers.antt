@@ -1,5 +1,4 @@
 use Rattle.std.proofs.Common.{Err, length, ap, refl, arith}
-use Rattle.packet_flow.specs.declared.flow.FlowEnd.TheVariants as flow_end
 use Rattle.packet_flow.specs.Forwarding.{beyond}
 use Rattle.packet_flow.specs.Routes.{on_way}
 use Rattle.packet_flow.proofs.Forwards.{fed_now, few_put, is_fed, new_burst, over_now, same_steps}

@@ -1,4 +1,4 @@
-use Rattle.std.proofs.Common.{◌+◌, ℕ, ap, sym, subst, ◌∙◌, arith}
+use Rattle.std.proofs.Common.{◌+◌, ℕ, sym, subst, ◌∙◌, arith}
 use Rattle.packet_flow.specs.Forwarding.{IsForwarding}
 use Rattle.packet_flow.proofs.Forwards.{few_put, fewer_turns, stalled_end}
 use Rattle.packet_flow.proofs.Turning.{counted_few}

@@ -1,4 +1,4 @@
-use Rattle.std.proofs.Common.{◌≡◌, ◌++◌, Bool, Err, List, [], length, map, ℕ, None, refl, ap, sym, subst, ◌∙◌, arith}
+use Rattle.std.proofs.Common.{◌≡◌, ◌++◌, Bool, List, length, map, ℕ, None, refl, sym, subst, ◌∙◌, arith}
 use Rattle.crypto_op.specs.Op.{entry_of}
 use Rattle.capture_io.specs.declared.header.ReadStop.{ReadStop}
 use Rattle.packet_flow.specs.declared.flow.FlowEnd.TheVariants as flow_end

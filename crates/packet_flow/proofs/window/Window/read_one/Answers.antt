@@ -1,5 +1,5 @@
-use Rattle.std.proofs.Common.{◌≡◌, ◌++◌, ◌∷◌, List, [], ap, sym, subst, ◌∙◌}
-use Rattle.capture_io.specs.Capture.{Rec, view}
+use Rattle.std.proofs.Common.{◌≡◌, ◌++◌, ◌∷◌, [], ap, sym, subst, ◌∙◌}
+use Rattle.capture_io.specs.Capture.{view}
 use Rattle.packet_flow.specs.Reads.{HasRead}
 use Rattle.packet_flow.specs.Window.{Ahead, views}
 use Rattle.packet_flow.proofs.Moving.{one_more}

@@ -1,4 +1,4 @@
-"""Runs `crypt` under sessions of every transform and key length, outward and back, and by turns through schedulers in
+"""Runs `crypt` and `forward` under sessions of every transform and key length, outward and back, and by turns through schedulers in
 each mode, and compares what it writes and reports with checks/reference.py. The program is ./capcrypt, or that which the environment
 variable CAPCRYPT names. Ends with 1 where something differs, and with 3 where the Python package
 `cryptography` is missing."""
@@ -36,8 +36,15 @@ BACK = {"encrypt": "decrypt", "generate": "verify"}
 # Lengths that mixed.pcap hasn't: shorter than any skip but 0, and such that a digest, or a block of the data
 # behind a skip of 14, passes the end of a segment of 2,048 bytes.
 LARGE = [0, 1, 2046, 2062, 2064]
-# The burst sizes, of which None is left out of the words.
-BURSTS = [1, 7, 32, 256, None]
+# The commands and their burst sizes, of which None is left out of the words. An adapter offers bursts of 32 too, as long as no device stalls.
+WAYS = [
+    ("crypt", 1),
+    ("crypt", 7),
+    ("crypt", 32),
+    ("forward", None),
+    ("crypt", 256),
+    ("crypt", None),
+]
 
 
 def cipher(mode, key):
@@ -89,7 +96,7 @@ class Runs:
 
     def __init__(self, folder):
         self.file = pathlib.Path(folder) / "sessions"
-        self.bursts = itertools.cycle(BURSTS)
+        self.ways = itertools.cycle(WAYS)
         self.schedulers = itertools.cycle(SCHEDULERS)
         self.differences = []
 
@@ -99,16 +106,16 @@ class Runs:
 
     def compare(self, text, capture):
         """Runs the program; gives the capture that is wanted, and the numbers of packets by outcome."""
-        vdev, burst = next(self.schedulers), next(self.bursts)
+        vdev, (command, burst) = next(self.schedulers), next(self.ways)
         made, counts, report = reference.crypt(text, capture, vdev, burst or 32)
         self.file.write_text(text)
         options = [] if burst is None else ["--burst", str(burst)]
-        words = [PROGRAM, "crypt", "--vdev", vdev, "--sessions", str(self.file), *options]
+        words = [PROGRAM, command, "--vdev", vdev, "--sessions", str(self.file), *options]
         ran = subprocess.run(words, input=capture, capture_output=True, cwd=TOP, timeout=60)
         got = ran.stdout, ran.stderr
         if got != (made, report) or ran.returncode:
             why = why_not((made, report), got)
-            self.expect(False, text, f"{vdev} {' '.join(options)} status {ran.returncode}: {why}")
+            self.expect(False, text, f"{command} {vdev} {' '.join(options)} status {ran.returncode}: {why}")
         return made, counts
 
     def there_and_back(self, outward, inward, capture):
